@@ -19,7 +19,7 @@ mod tuples;
 pub use arrays::{array, array_of_form, in_place, so_deep, untested};
 pub use built::Built;
 pub use data::{Data, copy, first_apart};
-pub use form::{Form, agrees, copy_form, form_of, inner_form, is_few, is_light, size_of};
+pub use form::{Form, agrees, copy_form, form_of, inner_form, is_few, is_light, size_of, sort_of};
 pub use handle::{Handle, Trace};
 pub use records::{named_part, names_of, put_fields, record, replaced};
 pub use rows::{count, depth, row, row_depth, row_form};

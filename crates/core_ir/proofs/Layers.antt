@@ -1,5 +1,5 @@
 -- What blocks of Core stand for, one level at a time.
-use Rattle.std.proofs.Common.{◌≡◌, ℕ, Bool, List, map, sym, ap, ◌∙◌, Bor}
+use Rattle.std.proofs.Common.{◌≡◌, Bool, List, map, sym, ap, ◌∙◌, Bor}
 use Rattle.fut_scalar.specs.declared.place.Place.{Place}
 use Rattle.core_ir.specs.declared.block.Atom.{Atom}
 use Rattle.core_ir.specs.declared.block.Var.{Var}

@@ -1,13 +1,12 @@
 -- Rows and parts of forms.
-use Rattle.std.proofs.Common.{◌≡◌, ℕ, zero, suc, ◌+◌, ◌<◌, ◌≤◌, List, [], ◌∷◌, ◌++◌, map, length, get_or, take, Option, Some, None, Ok, Err, Result, refl, sym, ap, ◌∙◌, subst, arith, add-one}
+use Rattle.std.proofs.Common.{◌≡◌, ℕ, zero, suc, ◌+◌, ◌<◌, ◌≤◌, List, [], ◌∷◌, ◌++◌, map, length, get_or, take, Ok, Err, Result, refl, sym, ap, ◌∙◌, subst, arith, add-one}
 use Rattle.std.proofs.lemmas.List.{take_all}
 use Rattle.fut_scalar.specs.declared.scalar.ScalarType.{ScalarType}
 use Rattle.fut_ast.specs.Sorts.{Text}
 use Rattle.fut_value.specs.Data.{Shape, Scalar_shape, Tuple_shape, Record_shape, Array_shape, Unmet_shape, shape_and}
-use Rattle.fut_meaning.specs.Found.{on_some, or_unmet}
 use Rattle.fut_meaning.specs.Outcomes.{Val}
+use Rattle.fut_meaning.specs.Places.{row_of, part_of, shape_at}
 use Rattle.fut_meaning.specs.Telling.{parts_of, arrays_of}
-use Rattle.fut_blocks.specs.Sizes.{part_in, row_in, shape_at}
 use Rattle.array_data.specs.declared.form.Form.{Form}
 use Rattle.array_data.specs.declared.form.Form.TheVariants as form
 use Rattle.array_data.specs.declared.stop.Stop.{Stop}
@@ -16,84 +15,73 @@ use Rattle.array_data.specs.Answers.{Tells, told, no_memory_told}
 use Rattle.array_data.specs.Held.{shapes, named_shapes, shape_held}
 use Rattle.array_data.proofs.Forms.{map_push}
 use Rattle.array_data.proofs.Holding.{form_unmet, form_scalar, form_tuple, form_record, form_array}
-use Rattle.form_parts.specs.Met.{met_held, as_met}
-
-pub form_there : (w : Option Form) (f : Form) → w ≡ Some f → shape_held f ≡ or_unmet (met_held w)
-form_there w f e = sym (ap (λ z. or_unmet (met_held z)) e)
-
-pub form_missing : (w : Option Form) (f : Form) → w ≡ None → f ≡ form.Unmet → shape_held f ≡ or_unmet (met_held w)
-form_missing w f e q = ap shape_held q ∙ form_unmet ∙ sym (ap (λ z. or_unmet (met_held z)) e)
-
-pub ruleset ors = (form_there, form_missing)
+use Rattle.form_parts.specs.Met.{as_shape}
 
 -- an answer is told by what it is, or memory is missing
-module _ (k : Shape → Option Shape) (w : Option Form) where
-  pub nothing_there : w ≡ None → Tells (Val (on_some (met_held w) k)) (as_met (Ok None))
-  nothing_there e = told (ap (λ z. Val (on_some (met_held z) k)) e)
+pub no_memory_for_part : (h : Shape) → Tells (Val h) (as_shape (Err Memory))
+no_memory_for_part h = no_memory_told
 
-  pub there : (f : Form) (h : Shape) (r : Result (Option Shape) Stop) → w ≡ Some f → shape_held f ≡ h → Tells (Val (k h)) r → Tells (Val (on_some (met_held w) k)) r
-  there f h r e q t = subst (λ z. Tells (Val z) r) (sym (ap (λ z. on_some (met_held z) k) e ∙ ap k q)) t
+module _ (k : Shape → Shape) (f : Form) (h : Shape) (q : shape_held f ≡ h) where
+  pub there : (r : Result Shape Stop) → Tells (Val (k h)) r → Tells (Val (k (shape_held f))) r
+  there r t = subst (λ z. Tells (Val (k z)) r) (sym q) t
 
   -- no such part
-  pub no_part : (f : Form) (h : Shape) → w ≡ Some f → shape_held f ≡ h → k h ≡ None → Tells (Val (on_some (met_held w) k)) (as_met (Ok None))
-  no_part f h e q n = there f h (Ok None) e q (told (ap Val n))
+  pub no_part : k h ≡ Unmet_shape → Tells (Val (k (shape_held f))) (as_shape (Ok form.Unmet))
+  no_part n = there (Ok (shape_held form.Unmet)) (told (ap Val (n ∙ sym form_unmet)))
 
-pub no_memory_for_part : (o : Option Shape) → Tells (Val o) (as_met (Err Memory))
-no_memory_for_part o = no_memory_told
+module _ (f : Form) where
+  pub rows_there : (n : ℕ) (k g : Form) → f ≡ form.Array n k → g ≡ k → Tells (Val (row_of (shape_held f))) (as_shape (Ok g))
+  rows_there n k g q p = there row_of f (Array_shape n (shape_held k)) (ap shape_held q ∙ form_array n k) (Ok (shape_held g)) (told (ap (λ z. Val (shape_held z)) (sym p)))
 
-module _ (w : Option Form) (f : Form) (e : w ≡ Some f) where
-  pub rows_there : (n : ℕ) (k g : Form) → f ≡ form.Array n k → g ≡ k → Tells (Val (on_some (met_held w) row_in)) (as_met (Ok (Some g)))
-  rows_there n k g q p = there row_in w f (Array_shape n (shape_held k)) (Ok (Some (shape_held g))) e (ap shape_held q ∙ form_array n k) (told (ap (λ z. Val (Some (shape_held z))) (sym p)))
+  pub rows_unmet : f ≡ form.Unmet → Tells (Val (row_of (shape_held f))) (as_shape (Ok form.Unmet))
+  rows_unmet q = no_part row_of f Unmet_shape (ap shape_held q ∙ form_unmet) refl
 
-  pub rows_unmet : f ≡ form.Unmet → Tells (Val (on_some (met_held w) row_in)) (as_met (Ok None))
-  rows_unmet q = no_part row_in w f Unmet_shape e (ap shape_held q ∙ form_unmet) refl
+  pub rows_scalar : (t : ScalarType) → f ≡ form.Scalar t → Tells (Val (row_of (shape_held f))) (as_shape (Ok form.Unmet))
+  rows_scalar t q = no_part row_of f (Scalar_shape t) (ap shape_held q ∙ form_scalar t) refl
 
-  pub rows_scalar : (t : ScalarType) → f ≡ form.Scalar t → Tells (Val (on_some (met_held w) row_in)) (as_met (Ok None))
-  rows_scalar t q = no_part row_in w f (Scalar_shape t) e (ap shape_held q ∙ form_scalar t) refl
+  pub rows_tuple : (hs : List Form) → f ≡ form.Tuple hs → Tells (Val (row_of (shape_held f))) (as_shape (Ok form.Unmet))
+  rows_tuple hs q = no_part row_of f (Tuple_shape (shapes (map shape_held hs))) (ap shape_held q ∙ form_tuple hs) refl
 
-  pub rows_tuple : (hs : List Form) → f ≡ form.Tuple hs → Tells (Val (on_some (met_held w) row_in)) (as_met (Ok None))
-  rows_tuple hs q = no_part row_in w f (Tuple_shape (shapes (map shape_held hs))) e (ap shape_held q ∙ form_tuple hs) refl
-
-  pub rows_record : (fs : List Text) (hs : List Form) → f ≡ form.Record fs hs → Tells (Val (on_some (met_held w) row_in)) (as_met (Ok None))
-  rows_record fs hs q = no_part row_in w f (Record_shape (named_shapes fs (map shape_held hs))) e (ap shape_held q ∙ form_record fs hs) refl
+  pub rows_record : (fs : List Text) (hs : List Form) → f ≡ form.Record fs hs → Tells (Val (row_of (shape_held f))) (as_shape (Ok form.Unmet))
+  rows_record fs hs q = no_part row_of f (Record_shape (named_shapes fs (map shape_held hs))) (ap shape_held q ∙ form_record fs hs) refl
 
   module _ (i : ℕ) where
-    pub part_there : (hs : List Form) (r : Result (Option Form) Stop) → f ≡ form.Tuple hs → Tells (Val (shape_at i (shapes (map shape_held hs)))) (as_met r) → Tells (Val (on_some (met_held w) (part_in i))) (as_met r)
-    part_there hs r q t = there (part_in i) w f (Tuple_shape (shapes (map shape_held hs))) (as_met r) e (ap shape_held q ∙ form_tuple hs) t
+    pub part_there : (hs : List Form) (r : Result Form Stop) → f ≡ form.Tuple hs → Tells (Val (shape_at i (shapes (map shape_held hs)))) (as_shape r) → Tells (Val (part_of i (shape_held f))) (as_shape r)
+    part_there hs r q t = there (part_of i) f (Tuple_shape (shapes (map shape_held hs))) (ap shape_held q ∙ form_tuple hs) (as_shape r) t
 
-    pub part_unmet : f ≡ form.Unmet → Tells (Val (on_some (met_held w) (part_in i))) (as_met (Ok None))
-    part_unmet q = no_part (part_in i) w f Unmet_shape e (ap shape_held q ∙ form_unmet) refl
+    pub part_unmet : f ≡ form.Unmet → Tells (Val (part_of i (shape_held f))) (as_shape (Ok form.Unmet))
+    part_unmet q = no_part (part_of i) f Unmet_shape (ap shape_held q ∙ form_unmet) refl
 
-    pub part_scalar : (t : ScalarType) → f ≡ form.Scalar t → Tells (Val (on_some (met_held w) (part_in i))) (as_met (Ok None))
-    part_scalar t q = no_part (part_in i) w f (Scalar_shape t) e (ap shape_held q ∙ form_scalar t) refl
+    pub part_scalar : (t : ScalarType) → f ≡ form.Scalar t → Tells (Val (part_of i (shape_held f))) (as_shape (Ok form.Unmet))
+    part_scalar t q = no_part (part_of i) f (Scalar_shape t) (ap shape_held q ∙ form_scalar t) refl
 
-    pub part_record : (fs : List Text) (hs : List Form) → f ≡ form.Record fs hs → Tells (Val (on_some (met_held w) (part_in i))) (as_met (Ok None))
-    part_record fs hs q = no_part (part_in i) w f (Record_shape (named_shapes fs (map shape_held hs))) e (ap shape_held q ∙ form_record fs hs) refl
+    pub part_record : (fs : List Text) (hs : List Form) → f ≡ form.Record fs hs → Tells (Val (part_of i (shape_held f))) (as_shape (Ok form.Unmet))
+    part_record fs hs q = no_part (part_of i) f (Record_shape (named_shapes fs (map shape_held hs))) (ap shape_held q ∙ form_record fs hs) refl
 
-    pub part_array : (n : ℕ) (k : Form) → f ≡ form.Array n k → Tells (Val (on_some (met_held w) (part_in i))) (as_met (Ok None))
-    part_array n k q = no_part (part_in i) w f (Array_shape n (shape_held k)) e (ap shape_held q ∙ form_array n k) refl
+    pub part_array : (n : ℕ) (k : Form) → f ≡ form.Array n k → Tells (Val (part_of i (shape_held f))) (as_shape (Ok form.Unmet))
+    part_array n k q = no_part (part_of i) f (Array_shape n (shape_held k)) (ap shape_held q ∙ form_array n k) refl
 
-pub ruleset rows_read = (nothing_there, no_memory_for_part, rows_there, rows_unmet, rows_scalar, rows_tuple, rows_record)
+pub ruleset rows_read = (no_memory_for_part, rows_there, rows_unmet, rows_scalar, rows_tuple, rows_record)
 
-pub ruleset parts_read = (nothing_there, part_there, part_unmet, part_scalar, part_record, part_array)
+pub ruleset parts_read = (part_there, part_unmet, part_scalar, part_record, part_array)
 
 -- ---- one of some forms
 
-past_parts : (fs : List Form) (i : ℕ) → length fs ≤ i → shape_at i (shapes (map shape_held fs)) ≡ None
+past_parts : (fs : List Form) (i : ℕ) → length fs ≤ i → shape_at i (shapes (map shape_held fs)) ≡ Unmet_shape
 past_parts [] i l = refl
 past_parts (f ∷ fs) zero l = absurd (omega arith)
 past_parts (f ∷ fs) (suc i) l = past_parts fs i (omega arith)
 
-at_parts : (fs : List Form) (i : ℕ) (f : Form) → i < length fs → shape_at i (shapes (map shape_held fs)) ≡ Some (shape_held (get_or fs i f))
+at_parts : (fs : List Form) (i : ℕ) (f : Form) → i < length fs → shape_at i (shapes (map shape_held fs)) ≡ shape_held (get_or fs i f)
 at_parts [] i f l = absurd (omega arith)
 at_parts (g ∷ fs) zero f l = refl
 at_parts (g ∷ fs) (suc i) f l = at_parts fs i f (omega arith)
 
-pub no_such_part : (fs : List Form) (i : ℕ) → length fs ≤ i → Tells (Val (shape_at i (shapes (map shape_held fs)))) (as_met (Ok None))
-no_such_part fs i l = told (ap Val (past_parts fs i l))
+pub no_such_part : (fs : List Form) (i : ℕ) → length fs ≤ i → Tells (Val (shape_at i (shapes (map shape_held fs)))) (as_shape (Ok form.Unmet))
+no_such_part fs i l = told (ap Val (past_parts fs i l ∙ sym form_unmet))
 
-pub such_part : (fs : List Form) (i : ℕ) (f g : Form) → i < length fs → g ≡ get_or fs i f → Tells (Val (shape_at i (shapes (map shape_held fs)))) (as_met (Ok (Some g)))
-such_part fs i f g l e = told (ap Val (at_parts fs i f l ∙ ap (λ z. Some (shape_held z)) (sym e)))
+pub such_part : (fs : List Form) (i : ℕ) (f g : Form) → i < length fs → g ≡ get_or fs i f → Tells (Val (shape_at i (shapes (map shape_held fs)))) (as_shape (Ok g))
+such_part fs i f g l e = told (ap Val (at_parts fs i f l ∙ ap shape_held (sym e)))
 
 pub ruleset one_of_parts = (no_memory_for_part, no_such_part, such_part)
 
@@ -103,30 +91,27 @@ arrays_listed : (n : ℕ) (hs : List Shape) → arrays_of n (shapes hs) ≡ shap
 arrays_listed n [] = refl
 arrays_listed n (h ∷ hs) = ap (shape_and (Array_shape n h)) (arrays_listed n hs)
 
-pub array_made : (n : ℕ) (f g : Form) → g ≡ f → Tells (Val (Some (Array_shape n (shape_held f)))) (as_met (Ok (Some (form.Array n g))))
-array_made n f g e = told (ap (λ z. Val (Some z)) (ap (λ z. Array_shape n (shape_held z)) (sym e) ∙ sym (form_array n g)))
+pub array_made : (n : ℕ) (f g : Form) → g ≡ f → Tells (Val (Array_shape n (shape_held f))) (as_shape (Ok (form.Array n g)))
+array_made n f g e = told (ap Val (ap (λ z. Array_shape n (shape_held z)) (sym e) ∙ sym (form_array n g)))
 
 pub ruleset arrays_made = (no_memory_for_part, array_made)
 
 module _ (f : Form) (n : ℕ) where
-  pub parts_arrays : (hs ks : List Form) → f ≡ form.Tuple hs → map shape_held ks ≡ map (Array_shape n) (map shape_held hs) → Tells (Val (Some (parts_of n (shape_held f)))) (as_met (Ok (Some (form.Tuple ks))))
+  pub parts_arrays : (hs ks : List Form) → f ≡ form.Tuple hs → map shape_held ks ≡ map (Array_shape n) (map shape_held hs) → Tells (Val (parts_of n (shape_held f))) (as_shape (Ok (form.Tuple ks)))
   parts_arrays hs ks e q =
-      told (ap (λ z. Val (Some z)) (ap (parts_of n) (ap shape_held e ∙ form_tuple hs) ∙ ap Tuple_shape (arrays_listed n (map shape_held hs)) ∙ sym (form_tuple ks ∙ ap (λ z. Tuple_shape (shapes z)) q)))
+      told (ap Val (ap (parts_of n) (ap shape_held e ∙ form_tuple hs) ∙ ap Tuple_shape (arrays_listed n (map shape_held hs)) ∙ sym (form_tuple ks ∙ ap (λ z. Tuple_shape (shapes z)) q)))
 
-  no_arrays : (h : Shape) → shape_held f ≡ h → parts_of n h ≡ Unmet_shape → Tells (Val (Some (parts_of n (shape_held f)))) (as_met (Ok (Some form.Unmet)))
-  no_arrays h e q = told (ap (λ z. Val (Some z)) (ap (parts_of n) e ∙ q ∙ sym form_unmet))
+  pub unmet_arrays : f ≡ form.Unmet → Tells (Val (parts_of n (shape_held f))) (as_shape (Ok form.Unmet))
+  unmet_arrays e = no_part (parts_of n) f Unmet_shape (ap shape_held e ∙ form_unmet) refl
 
-  pub unmet_arrays : f ≡ form.Unmet → Tells (Val (Some (parts_of n (shape_held f)))) (as_met (Ok (Some form.Unmet)))
-  unmet_arrays e = no_arrays Unmet_shape (ap shape_held e ∙ form_unmet) refl
+  pub scalar_arrays : (t : ScalarType) → f ≡ form.Scalar t → Tells (Val (parts_of n (shape_held f))) (as_shape (Ok form.Unmet))
+  scalar_arrays t e = no_part (parts_of n) f (Scalar_shape t) (ap shape_held e ∙ form_scalar t) refl
 
-  pub scalar_arrays : (t : ScalarType) → f ≡ form.Scalar t → Tells (Val (Some (parts_of n (shape_held f)))) (as_met (Ok (Some form.Unmet)))
-  scalar_arrays t e = no_arrays (Scalar_shape t) (ap shape_held e ∙ form_scalar t) refl
+  pub record_arrays : (fs : List Text) (hs : List Form) → f ≡ form.Record fs hs → Tells (Val (parts_of n (shape_held f))) (as_shape (Ok form.Unmet))
+  record_arrays fs hs e = no_part (parts_of n) f (Record_shape (named_shapes fs (map shape_held hs))) (ap shape_held e ∙ form_record fs hs) refl
 
-  pub record_arrays : (fs : List Text) (hs : List Form) → f ≡ form.Record fs hs → Tells (Val (Some (parts_of n (shape_held f)))) (as_met (Ok (Some form.Unmet)))
-  record_arrays fs hs e = no_arrays (Record_shape (named_shapes fs (map shape_held hs))) (ap shape_held e ∙ form_record fs hs) refl
-
-  pub array_arrays : (m : ℕ) (k : Form) → f ≡ form.Array m k → Tells (Val (Some (parts_of n (shape_held f)))) (as_met (Ok (Some form.Unmet)))
-  array_arrays m k e = no_arrays (Array_shape m (shape_held k)) (ap shape_held e ∙ form_array m k) refl
+  pub array_arrays : (m : ℕ) (k : Form) → f ≡ form.Array m k → Tells (Val (parts_of n (shape_held f))) (as_shape (Ok form.Unmet))
+  array_arrays m k e = no_part (parts_of n) f (Array_shape m (shape_held k)) (ap shape_held e ∙ form_array m k) refl
 
 pub ruleset unzipped = (no_memory_for_part, parts_arrays, unmet_arrays, scalar_arrays, record_arrays, array_arrays)
 

@@ -1,23 +1,24 @@
 -- Integers that sizes are worth.
-use Rattle.std.proofs.Common.{◌≡◌, ℕ, List, map, length, Option, Some, None, Ok, Err, Bool, true, false, nat_eq, refl, sym, ap, ◌∙◌}
-use Rattle.std.specs.Prelude.{ℤ, pos}
+use Rattle.std.proofs.Common.{◌≡◌, ℕ, List, length, Option, Some, None, Ok, Err, Bool, true, false, nat_eq, refl, sym, ap, ◌∙◌}
+use Rattle.std.specs.Prelude.{ℤ}
 use Rattle.fut_scalar.specs.declared.scalar.Scalar.TheVariants as scalar
 use Rattle.fut_scalar.specs.declared.scalar.ScalarType.{ScalarType}
 use Rattle.fut_ast.specs.Sorts.{Text}
-use Rattle.fut_value.specs.Data.{Shape, Scalar_shape, Tuple_shape, Record_shape, Array_shape, Unmet_shape, Datum, Scalar_datum, Tuple_datum, Record_datum, Array_datum, shape_of}
+use Rattle.fut_value.specs.Data.{Datum, Scalar_datum, Tuple_datum, Record_datum, Array_datum, shape_of}
 use Rattle.fut_meaning.specs.Arrays.{exact_of, rows_of}
-use Rattle.fut_meaning.specs.Found.{on_some, count, agrees}
+use Rattle.fut_meaning.specs.Found.{count, agrees}
 use Rattle.fut_meaning.specs.Outcomes.{Val, Wrong}
-use Rattle.fut_blocks.specs.Sizes.{datum_worth, length_in}
+use Rattle.fut_meaning.specs.Places.{size_of}
+use Rattle.fut_blocks.specs.Sizes.{datum_worth}
 use Rattle.array_data.specs.declared.form.Form.{Form}
 use Rattle.array_data.specs.declared.form.Form.TheVariants as form
 use Rattle.array_data.specs.declared.sizes.Exact.{Exact}
 use Rattle.array_data.specs.declared.sizes.Exact.TheVariants as exact
 use Rattle.array_data.specs.declared.stop.Stop.{Stop}
 use Rattle.array_data.specs.Answers.{Exact_is, exact_is, no_integer, Counts, counts, no_array, exact_held}
-use Rattle.array_data.specs.Held.{shapes, named_shapes, shape_held, rows_in, row_shape_in}
+use Rattle.array_data.specs.Held.{shape_held, rows_in, row_shape_in}
 use Rattle.array_data.proofs.Holding.{form_unmet, form_scalar, form_tuple, form_record, form_array}
-use Rattle.form_parts.specs.Met.{met_held, exact_met}
+use Rattle.form_parts.specs.Met.{exact_met}
 
 -- ---- data
 
@@ -43,57 +44,47 @@ worth_nothing d _ (no_integer e) = sym (no_worth d e)
 
 pub ruleset worths = (is_worth, worth_nothing)
 
-length_is : (d : Datum) → rows_of d ≡ Val (row_shape_in d, rows_in d) → length_in (shape_of d) ≡ Some (pos (length (rows_in d)))
+length_is : (d : Datum) → rows_of d ≡ Val (row_shape_in d, rows_in d) → size_of (shape_of d) ≡ length (rows_in d)
 unfolding shape_of
 length_is (Scalar_datum s) e = cc
 length_is (Tuple_datum ds) e = cc
 length_is (Record_datum ds) e = cc
 length_is (Array_datum h ds) e = refl
 
-no_length : (d : Datum) → rows_of d ≡ Wrong → length_in (shape_of d) ≡ None
+no_length : (d : Datum) → rows_of d ≡ Wrong → size_of (shape_of d) ≡ 0
 unfolding shape_of
 no_length (Scalar_datum s) e = refl
 no_length (Tuple_datum ds) e = refl
 no_length (Record_datum ds) e = refl
 no_length (Array_datum h ds) e = cc
 
-natural : (n m : ℕ) → n ≡ m → exact_met (Some (exact.Natural n)) ≡ Some (pos m)
-unfolding exact_held
-natural n m e = ap (λ z. Some (pos z)) e
+pub is_long : (d : Datum) (n m : ℕ) → Counts d (Ok n) → m ≡ n → m ≡ size_of (shape_of d)
+is_long d n m (counts e q) p = p ∙ q ∙ sym (length_is d e)
 
-pub is_long : (d : Datum) (n m : ℕ) → Counts d (Ok n) → m ≡ n → exact_met (Some (exact.Natural m)) ≡ length_in (shape_of d)
-is_long d n m (counts e q) p = natural m (length (rows_in d)) (p ∙ q) ∙ sym (length_is d e)
-
-pub long_nothing : (d : Datum) (x : Stop) → Counts d (Err x) → exact_met None ≡ length_in (shape_of d)
+pub long_nothing : (d : Datum) (x : Stop) → Counts d (Err x) → 0 ≡ size_of (shape_of d)
 long_nothing d _ (no_array e) = sym (no_length d e)
 
 pub ruleset lengths = (is_long, long_nothing)
 
 -- ---- forms
 
-pub nothing_long : (w : Option Form) → w ≡ None → exact_met None ≡ on_some (met_held w) length_in
-nothing_long w e = sym (ap (λ z. on_some (met_held z) length_in) e)
+module _ (f : Form) where
+  pub array_long : (n : ℕ) (k : Form) → f ≡ form.Array n k → n ≡ size_of (shape_held f)
+  array_long n k q = sym (ap size_of (ap shape_held q ∙ form_array n k))
 
-module _ (w : Option Form) (f : Form) (e : w ≡ Some f) where
-  long_is : (h : Shape) → shape_held f ≡ h → on_some (met_held w) length_in ≡ length_in h
-  long_is h q = ap (λ z. on_some (met_held z) length_in) e ∙ ap length_in q
+  pub unmet_long : f ≡ form.Unmet → 0 ≡ size_of (shape_held f)
+  unmet_long q = sym (ap size_of (ap shape_held q ∙ form_unmet))
 
-  pub array_long : (n m : ℕ) (k : Form) → f ≡ form.Array n k → m ≡ n → exact_met (Some (exact.Natural m)) ≡ on_some (met_held w) length_in
-  array_long n m k q p = natural m n p ∙ sym (long_is (Array_shape n (shape_held k)) (ap shape_held q ∙ form_array n k))
+  pub scalar_long : (t : ScalarType) → f ≡ form.Scalar t → 0 ≡ size_of (shape_held f)
+  scalar_long t q = sym (ap size_of (ap shape_held q ∙ form_scalar t))
 
-  pub unmet_long : f ≡ form.Unmet → exact_met None ≡ on_some (met_held w) length_in
-  unmet_long q = sym (long_is Unmet_shape (ap shape_held q ∙ form_unmet))
+  pub tuple_long : (hs : List Form) → f ≡ form.Tuple hs → 0 ≡ size_of (shape_held f)
+  tuple_long hs q = sym (ap size_of (ap shape_held q ∙ form_tuple hs))
 
-  pub scalar_long : (t : ScalarType) → f ≡ form.Scalar t → exact_met None ≡ on_some (met_held w) length_in
-  scalar_long t q = sym (long_is (Scalar_shape t) (ap shape_held q ∙ form_scalar t))
+  pub record_long : (fs : List Text) (hs : List Form) → f ≡ form.Record fs hs → 0 ≡ size_of (shape_held f)
+  record_long fs hs q = sym (ap size_of (ap shape_held q ∙ form_record fs hs))
 
-  pub tuple_long : (hs : List Form) → f ≡ form.Tuple hs → exact_met None ≡ on_some (met_held w) length_in
-  tuple_long hs q = sym (long_is (Tuple_shape (shapes (map shape_held hs))) (ap shape_held q ∙ form_tuple hs))
-
-  pub record_long : (fs : List Text) (hs : List Form) → f ≡ form.Record fs hs → exact_met None ≡ on_some (met_held w) length_in
-  record_long fs hs q = sym (long_is (Record_shape (named_shapes fs (map shape_held hs))) (ap shape_held q ∙ form_record fs hs))
-
-pub ruleset form_lengths = (nothing_long, array_long, unmet_long, scalar_long, tuple_long, record_long)
+pub ruleset form_lengths = (array_long, unmet_long, scalar_long, tuple_long, record_long)
 
 -- ---- sizes
 

@@ -1,16 +1,14 @@
 // Fields of forms, by their names.
-ghost use Rattle.std.specs.Prelude.{◌≡◌, IfOk, Some, map};
+ghost use Rattle.std.specs.Prelude.{◌≡◌, IfOk, map};
 ghost use Rattle.std.specs.Str.{bytes_eq};
-ghost use Rattle.fut_meaning.specs.Found.{field_shape, on_some};
 ghost use Rattle.fut_meaning.specs.Outcomes.{Val};
+ghost use Rattle.fut_meaning.specs.Places.{field_of, field_shape};
 ghost use Rattle.fut_value.specs.Data.{Record_shape};
-ghost use Rattle.fut_blocks.specs.Sizes.{field_in};
 ghost use Rattle.array_data.specs.Answers.{Tells};
 ghost use Rattle.array_data.specs.Held.{named_shapes, shape_held};
-ghost use Rattle.form_parts.specs.Met.{as_met, as_placed, field_texts, met_held};
+ghost use Rattle.form_parts.specs.Met.{as_found, as_shape, field_texts};
 
-use crate::parts::form_at;
-use array_data::{Form, Stop};
+use array_data::{Form, Stop, copy_form};
 use fut_blocks::FieldShape;
 use fut_scalar::{List, Name, NoMemory, Shared};
 use std::alloc::Global;
@@ -22,55 +20,46 @@ fn is_named(name: &Name, text: &str) -> bool
     name.as_str() == text
 }
 
-/// Where the first field of a name stands. Each form has a name.
+/// The first form of a name, where there is one. Each form has a name.
 #[tactic(auto, using(crate::proofs::FieldForms::places))]
-pub fn place_of(name: &str, names: &[Name], forms: &[Form]) -> Result<Option<usize>, Stop>
-    ensures { Tells (Val (field_shape name.now (named_shapes names.now (map shape_held forms.now)))) (as_placed forms.now result) }
+pub fn field_at<'a>(name: &str, names: &[Name], forms: &'a [Form]) -> Result<Option<&'a Form>, Stop>
+    ensures { Tells (Val (field_shape name.now (named_shapes names.now (map shape_held forms.now)))) (as_found result) }
 {
     for i in 0..forms.len() {
         if i >= names.len() {
             return Err(Stop::Memory);
         }
         if is_named(&names[i], name) {
-            return Ok(Some(i));
+            return Ok(Some(&forms[i]));
         }
     }
     Ok(None)
 }
 
-/// The form of a record's field.
+/// The form of a record's field. Where there is none, nothing is told.
 #[tactic(auto, using(crate::proofs::FieldForms::fields))]
-pub fn field_form(alloc: Global, name: &str, whole: &Option<Form>) -> Result<Option<Form>, Stop>
-    ensures { Tells (Val (on_some (met_held whole.now) (field_in name.now))) (as_met result) }
+pub fn field_form(alloc: Global, name: &str, whole: &Form) -> Result<Form, Stop>
+    ensures { Tells (Val (field_of name.now (shape_held whole.now))) (as_shape result) }
 {
-    let Some(form) = whole else {
-        return Ok(None);
-    };
-    match form {
+    match whole {
         Form::Record(names, forms) => {
-            let Some(at) = place_of(name, names.get().as_slice(), forms.as_slice())? else {
-                return Ok(None);
+            let Some(form) = field_at(name, names.get().as_slice(), forms.as_slice())? else {
+                return Ok(Form::Unmet);
             };
-            form_at(alloc, at, forms.as_slice())
+            let form = copy_form(alloc, form)?;
+            Ok(form)
         }
-        Form::Unmet => Ok(None),
-        Form::Scalar(_) => Ok(None),
-        Form::Tuple(_) => Ok(None),
-        Form::Array(_, _) => Ok(None),
+        Form::Unmet | Form::Scalar(_) | Form::Tuple(_) | Form::Array(_, _) => Ok(Form::Unmet),
     }
 }
 
 /// The form of a record of fields of these forms.
 #[tactic(auto, using(crate::proofs::FieldForms::records))]
-pub fn record_form(
-    alloc: Global,
-    fields: &[FieldShape],
-    forms: List<Form>,
-) -> Result<Option<Form>, Stop>
-    ensures { Tells (Val (Some (Record_shape (named_shapes (field_texts fields.now) (map shape_held forms))))) (as_met result) }
+pub fn record_form(alloc: Global, fields: &[FieldShape], forms: List<Form>) -> Result<Form, Stop>
+    ensures { Tells (Val (Record_shape (named_shapes (field_texts fields.now) (map shape_held forms)))) (as_shape result) }
 {
     let names = Shared::new(alloc, field_names(alloc, fields)?)?;
-    Ok(Some(Form::Record(names, forms)))
+    Ok(Form::Record(names, forms))
 }
 
 /// The names of fields, copied.

@@ -1,14 +1,15 @@
-// Integers that sizes are worth, where there are any.
+// Integers that sizes are worth.
 ghost use Rattle.std.specs.Prelude.{◌≡◌};
-ghost use Rattle.fut_meaning.specs.Found.{agrees as agrees_with, count as count_told, on_some};
+ghost use Rattle.fut_meaning.specs.Found.{agrees as agrees_with, count as count_told};
+ghost use Rattle.fut_meaning.specs.Places.{size_of};
 ghost use Rattle.fut_value.specs.Data.{shape_of};
-ghost use Rattle.fut_blocks.specs.Sizes.{datum_worth, length_in};
-ghost use Rattle.array_data.specs.Held.{held};
-ghost use Rattle.form_parts.specs.Met.{exact_met, met_held};
+ghost use Rattle.fut_blocks.specs.Sizes.{datum_worth};
+ghost use Rattle.array_data.specs.Held.{held, shape_held};
+ghost use Rattle.form_parts.specs.Met.{exact_met};
 
 use array_data::{Data, Exact, Form, count, whole_number};
 
-/// The integer that data is worth as a size.
+/// The integer that data is worth as a size, where it is one.
 #[tactic(auto, using(crate::proofs::Worths::worths))]
 pub fn data_worth(whole: &Data) -> Option<Exact>
     ensures { exact_met result ≡ datum_worth (held whole.now) }
@@ -19,28 +20,25 @@ pub fn data_worth(whole: &Data) -> Option<Exact>
     }
 }
 
-/// How many rows data has that is an array.
+/// How many rows data has: 0 where it is no array.
 #[tactic(auto, using(crate::proofs::Worths::lengths))]
-pub fn data_length(whole: &Data) -> Option<Exact>
-    ensures { exact_met result ≡ length_in (shape_of (held whole.now)) }
+pub fn data_length(whole: &Data) -> u64
+    ensures { result ≡ size_of (shape_of (held whole.now)) }
 {
     match count(whole) {
-        Ok(many) => Some(Exact::Natural(many as u64)),
-        Err(_) => None,
+        Ok(many) => many as u64,
+        Err(_) => 0,
     }
 }
 
-/// How many rows arrays of a form have.
+/// How many rows data of a form has: 0 where that is no array.
 #[tactic(auto, using(crate::proofs::Worths::form_lengths))]
-pub fn length_of(whole: &Option<Form>) -> Option<Exact>
-    ensures { exact_met result ≡ on_some (met_held whole.now) length_in }
+pub fn length_of(whole: &Form) -> u64
+    ensures { result ≡ size_of (shape_held whole.now) }
 {
-    let Some(form) = whole else {
-        return None;
-    };
-    match form {
-        Form::Array(many, _) => Some(Exact::Natural(*many)),
-        Form::Unmet | Form::Scalar(_) | Form::Tuple(_) | Form::Record(_, _) => None,
+    match whole {
+        Form::Array(many, _) => *many,
+        Form::Unmet | Form::Scalar(_) | Form::Tuple(_) | Form::Record(_, _) => 0,
     }
 }
 

@@ -7,7 +7,7 @@ use Rattle.fut_scalar.specs.declared.scalar.IntType.TheVariants.{I8, U8}
 use Rattle.fut_scalar.specs.declared.scalar.Scalar.{Scalar}
 use Rattle.fut_scalar.specs.declared.scalar.Scalar.TheVariants as scalar
 use Rattle.fut_scalar.specs.declared.scalar.ScalarType.TheVariants as sort
-use Rattle.fut_value.specs.Data.{Datum, Scalar_datum, Tuple_datum, Record_datum, Array_datum, Scalar_shape, Tuple_shape, Array_shape, shape_and, no_shape, no_datum, datums, no_named, named_and, shape_of, words, array_words, weight, heaviest, same_sizes}
+use Rattle.fut_value.specs.Data.{Datum, Scalar_datum, Tuple_datum, Record_datum, Array_datum, Scalar_shape, Tuple_shape, Array_shape, Unmet_shape, shape_and, no_shape, no_datum, datums, no_named, named_and, shape_of, words, array_words, weight, heaviest, same_sizes}
 use Rattle.fut_flat.specs.declared.prim.Primitive.TheVariants as prim
 use Rattle.fut_meaning.specs.Arrays.{Make_array, made, array, i64}
 use Rattle.fut_meaning.specs.Jobs.{job}
@@ -20,7 +20,7 @@ use Rattle.fut_blocks.specs.declared.block.Atom.TheVariants as atom
 use Rattle.fut_blocks.specs.declared.block.Operation.TheVariants as operation
 use Rattle.fut_blocks.specs.Plain.{Action, Operate, Make, Size_of, Coerce, Job, If, For, Over, While, Body, Give, Let, Record_with, Part_at, Replace_at, Fields_at}
 use Rattle.fut_blocks.specs.Records.{reads}
-use Rattle.fut_blocks.specs.Rows.{Unknown_row, Scalar_row, Tuple_row, Array_row, Shape_of, Rows_of, Part_of, Unzipped_row, First_of, no_row, row_and, no_reading, reading_or, Extent, Exactly, Worth_of, Length_of, Any_size, Array_test}
+use Rattle.fut_blocks.specs.Rows.{Unknown_row, Scalar_row, Tuple_row, Array_row, Shape_of, Rows_of, Part_of, Unzipped_row, no_row, row_and, Extent, Nowhere, Exactly, Worth_of, Length_of, Any_size, Array_test}
 use Rattle.fut_blocks.specs.Sizes.{row_shape, extent_worth}
 use Rattle.fut_blocks.specs.Meaning.{Component, Names, operated, act_means, body_means}
 use Rattle.fut_blocks.specs.Numbered.{Body_numbered}
@@ -32,7 +32,7 @@ abbrev number : ℕ → Scalar
 number n = scalar.Int U8 n
 
 abbrev worth : ℕ → Extent
-worth x = reading_or (Worth_of (atom.Name x)) no_reading
+worth x = Worth_of (atom.Name x)
 
 abbrev word : ℕ → Component
 word n = Scalar_datum (number n)
@@ -144,46 +144,46 @@ empty_rows_have_their_sizes = goes_on {f = 0} {g = 0} exact (goes_on {f = 0} {g 
 abbrev table : Names Component
 table = (0, Array_datum (Array_shape 2 (Scalar_shape (sort.Int U8))) (datums (row (1 ∷ 2 ∷ []) ∷ row (3 ∷ 4 ∷ []) ∷ row (5 ∷ 6 ∷ []) ∷ []))) ∷ []
 
-rows_are_counted : extent_worth table (reading_or (Length_of (Shape_of (atom.Name 0))) no_reading) ≡ Val (Some (pos 3))
+rows_are_counted : extent_worth table (Length_of (Shape_of (atom.Name 0))) ≡ Val (Some (pos 3))
 unfolding shape_of
 rows_are_counted = refl
 
-words_of_a_row_are_counted : extent_worth table (reading_or (Length_of (Rows_of (Shape_of (atom.Name 0)))) no_reading) ≡ Val (Some (pos 2))
+words_of_a_row_are_counted : extent_worth table (Length_of (Rows_of (Shape_of (atom.Name 0)))) ≡ Val (Some (pos 2))
 unfolding shape_of
 words_of_a_row_are_counted = refl
 
--- a word has no rows, so what is said next counts
-the_first_reading_that_says_anything_counts : extent_worth table (reading_or (Length_of (Rows_of (Rows_of (Shape_of (atom.Name 0))))) (reading_or (Exactly 7) no_reading)) ≡ Val (Some (pos 7))
+-- a word has no rows
+words_have_no_rows : extent_worth table (Length_of (Rows_of (Rows_of (Shape_of (atom.Name 0))))) ≡ Val (Some (pos 0))
 unfolding shape_of
-the_first_reading_that_says_anything_counts = refl
-
--- and what stands behind it may be a name of nothing
-later_readings_are_not_asked : extent_worth table (reading_or (Exactly 7) (reading_or (Worth_of (atom.Name 9)) no_reading)) ≡ Val (Some (pos 7))
-later_readings_are_not_asked = refl
+words_have_no_rows = refl
 
 names_have_to_stand_for_something : row_shape table (Shape_of (atom.Name 9)) ≡ Wrong
 names_have_to_stand_for_something = refl
 
 -- a pair of arrays, as the rows of an array of pairs give one
-pairs_come_apart : row_shape table (Unzipped_row (reading_or (Exactly 3) no_reading) (Tuple_row (row_and (Scalar_row sort.Bool) (row_and (Rows_of (Shape_of (atom.Name 0))) no_row)))) ≡ Val (Tuple_shape (shape_and (Array_shape 3 (Scalar_shape sort.Bool)) (shape_and (Array_shape 3 (Array_shape 2 (Scalar_shape (sort.Int U8)))) no_shape)))
+pairs_come_apart : row_shape table (Unzipped_row (Exactly 3) (Tuple_row (row_and (Scalar_row sort.Bool) (row_and (Rows_of (Shape_of (atom.Name 0))) no_row)))) ≡ Val (Tuple_shape (shape_and (Array_shape 3 (Scalar_shape sort.Bool)) (shape_and (Array_shape 3 (Array_shape 2 (Scalar_shape (sort.Int U8)))) no_shape)))
 unfolding shape_of
 pairs_come_apart = refl
 
-the_first_row_that_is_there_counts : row_shape table (First_of (row_and (Part_of 0 (Shape_of (atom.Name 0))) (row_and (Scalar_row sort.Bool) no_row))) ≡ Val (Scalar_shape sort.Bool)
+-- an array has no parts
+what_is_not_there_is_unmet : row_shape table (Part_of 0 (Shape_of (atom.Name 0))) ≡ Val Unmet_shape
 unfolding shape_of
-the_first_row_that_is_there_counts = refl
+what_is_not_there_is_unmet = refl
+
+parts_are_counted_from_0 : row_shape table (Part_of 1 (Tuple_row (row_and (Scalar_row sort.Bool) (row_and (Scalar_row (sort.Int U8)) no_row)))) ≡ Val (Scalar_shape (sort.Int U8))
+parts_are_counted_from_0 = refl
 
 sizes_are_given_as_i64 : act_means false 0 (Size_of (worth 0)) ((0, word 7) ∷ []) (Val (i64 7 ∷ [])) 0
 unfolding act_means
 sizes_are_given_as_i64 = exact
 
 -- 3 rows of 2 words, and not of 3
-sizes_are_tested : act_means false 0 (Coerce here (Array_test (reading_or (Exactly 3) no_reading) (Array_test (reading_or (Exactly 3) no_reading) Any_size)) (Shape_of (atom.Name 0))) table (Fail (report kind.Size here)) 0
+sizes_are_tested : act_means false 0 (Coerce here (Array_test (Exactly 3) (Array_test (Exactly 3) Any_size)) (Shape_of (atom.Name 0))) table (Fail (report kind.Size here)) 0
 unfolding act_means shape_of
 sizes_are_tested = exact
 
 -- whatever a size is that nothing tells
-the_same_sizes_pass : act_means false 0 (Coerce here (Array_test (reading_or (Exactly 3) no_reading) (Array_test no_reading Any_size)) (Shape_of (atom.Name 0))) table (Val []) 0
+the_same_sizes_pass : act_means false 0 (Coerce here (Array_test (Exactly 3) (Array_test Nowhere Any_size)) (Shape_of (atom.Name 0))) table (Val []) 0
 unfolding act_means shape_of
 the_same_sizes_pass = exact
 

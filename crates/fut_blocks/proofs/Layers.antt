@@ -8,13 +8,13 @@ use Rattle.fut_scalar.specs.declared.scalar.ScalarType.{ScalarType}
 use Rattle.fut_blocks.specs.declared.block.Making.{Making}
 use Rattle.fut_blocks.specs.declared.row.RowShape.{RowShape, RowShape-F, fold-roll-RowShape}
 use Rattle.fut_blocks.specs.declared.row.RowShape.TheVariants as row
-use Rattle.fut_blocks.specs.declared.row.Reading.{Reading as Held_reading, Reading-F, fold-roll-Reading}
-use Rattle.fut_blocks.specs.declared.row.Reading.TheVariants as reading
+use Rattle.fut_blocks.specs.declared.row.Extent.{Extent as Held_extent, Extent-F, fold-roll-Extent}
+use Rattle.fut_blocks.specs.declared.row.Extent.TheVariants as extent
 use Rattle.fut_blocks.specs.declared.row.FieldShape.{FieldShape, fold_out-FieldShape}
 use Rattle.fut_blocks.specs.declared.row.SizeTest.{SizeTest, SizeTest-F, fold-roll-SizeTest}
 use Rattle.fut_blocks.specs.declared.row.SizeTest.TheVariants as test
 use Rattle.fut_blocks.specs.declared.row.FieldTest.{FieldTest, fold_out-FieldTest}
-use Rattle.fut_blocks.specs.Rows.{Row, Unknown_row, Scalar_row, Tuple_row, Record_row, Array_row, Shape_of, Rows_of, Part_of, Field_of, Unzipped_row, First_of, Reading, Exactly, Worth_of, Length_of, Size_test, Any_size, Array_test, Tuple_test, Record_test, rows, named_rows, tests, named_tests, reading_form, row_form, field_form, row_of, reading_of, named_row_of, extent_of, test_form, named_test_form, test_of, named_test_of}
+use Rattle.fut_blocks.specs.Rows.{Row, Unknown_row, Scalar_row, Tuple_row, Record_row, Array_row, Shape_of, Rows_of, Part_of, Field_of, Unzipped_row, Extent, Nowhere, Exactly, Worth_of, Length_of, Size_test, Any_size, Array_test, Tuple_test, Record_test, rows, named_rows, tests, named_tests, extent_form, row_form, field_form, row_of, extent_of, named_row_of, test_form, named_test_form, test_of, named_test_of}
 use Rattle.fut_blocks.specs.declared.block.Operation.{Operation}
 use Rattle.fut_blocks.specs.declared.block.Act.{Act, fold-roll-Act}
 use Rattle.fut_blocks.specs.declared.block.Act.TheOpen as open_act
@@ -24,70 +24,70 @@ use Rattle.fut_blocks.specs.declared.block.Step.{Step, Step-F, roll-Step, out-ro
 use Rattle.fut_blocks.specs.Plain.{Action, Operate, Job, Size_of, Coerce, If, For, Over, While, Body, lets, making_form, act_form, block_form, step_form, action_of, body_of, binding_of}
 
 pub row_of-Unknown : row_of row.Unknown ≡ Unknown_row
-unfolding row_of reading_of named_row_of row_form
-row_of-Unknown = ap row_of (sym row.rolls-Unknown) ∙ fold-roll-RowShape Reading Row (Text × Row) reading_form row_form field_form RowShape-F.Unknown
+unfolding row_of extent_of named_row_of row_form
+row_of-Unknown = ap row_of (sym row.rolls-Unknown) ∙ fold-roll-RowShape Extent Row (Text × Row) extent_form row_form field_form RowShape-F.Unknown
 
 pub row_of-Scalar : (t : ScalarType) → row_of (row.Scalar t) ≡ Scalar_row t
-unfolding row_of reading_of named_row_of row_form
-row_of-Scalar t = ap row_of (sym (row.rolls-Scalar t)) ∙ fold-roll-RowShape Reading Row (Text × Row) reading_form row_form field_form (RowShape-F.Scalar t)
+unfolding row_of extent_of named_row_of row_form
+row_of-Scalar t = ap row_of (sym (row.rolls-Scalar t)) ∙ fold-roll-RowShape Extent Row (Text × Row) extent_form row_form field_form (RowShape-F.Scalar t)
 
 pub row_of-Tuple : (rs : Bor (List RowShape)) → row_of (row.Tuple rs) ≡ Tuple_row (rows (map row_of rs.now))
-unfolding row_of reading_of named_row_of row_form
-row_of-Tuple rs = ap row_of (sym (row.rolls-Tuple rs)) ∙ fold-roll-RowShape Reading Row (Text × Row) reading_form row_form field_form (RowShape-F.Tuple rs)
+unfolding row_of extent_of named_row_of row_form
+row_of-Tuple rs = ap row_of (sym (row.rolls-Tuple rs)) ∙ fold-roll-RowShape Extent Row (Text × Row) extent_form row_form field_form (RowShape-F.Tuple rs)
 
 pub row_of-Record : (fs : Bor (List FieldShape)) → row_of (row.Record fs) ≡ Record_row (named_rows (map named_row_of fs.now))
-unfolding row_of reading_of named_row_of row_form
-row_of-Record fs = ap row_of (sym (row.rolls-Record fs)) ∙ fold-roll-RowShape Reading Row (Text × Row) reading_form row_form field_form (RowShape-F.Record fs)
+unfolding row_of extent_of named_row_of row_form
+row_of-Record fs = ap row_of (sym (row.rolls-Record fs)) ∙ fold-roll-RowShape Extent Row (Text × Row) extent_form row_form field_form (RowShape-F.Record fs)
 
-pub row_of-Array : (e : Bor (List Held_reading)) (r : Bor RowShape) → row_of (row.Array e r) ≡ Array_row (extent_of e.now) (row_of r.now)
-unfolding row_of reading_of named_row_of row_form
-row_of-Array e r = ap row_of (sym (row.rolls-Array e r)) ∙ fold-roll-RowShape Reading Row (Text × Row) reading_form row_form field_form (RowShape-F.Array e r)
+pub row_of-Array : (e : Held_extent) (r : Bor RowShape) → row_of (row.Array e r) ≡ Array_row (extent_of e) (row_of r.now)
+unfolding row_of extent_of named_row_of row_form
+row_of-Array e r = ap row_of (sym (row.rolls-Array e r)) ∙ fold-roll-RowShape Extent Row (Text × Row) extent_form row_form field_form (RowShape-F.Array e r)
 
 pub row_of-Data : (u : Atom) → row_of (row.Data u) ≡ Shape_of u
-unfolding row_of reading_of named_row_of row_form
-row_of-Data u = ap row_of (sym (row.rolls-Data u)) ∙ fold-roll-RowShape Reading Row (Text × Row) reading_form row_form field_form (RowShape-F.Data u)
+unfolding row_of extent_of named_row_of row_form
+row_of-Data u = ap row_of (sym (row.rolls-Data u)) ∙ fold-roll-RowShape Extent Row (Text × Row) extent_form row_form field_form (RowShape-F.Data u)
 
 pub row_of-Rows : (r : Bor RowShape) → row_of (row.Rows r) ≡ Rows_of (row_of r.now)
-unfolding row_of reading_of named_row_of row_form
-row_of-Rows r = ap row_of (sym (row.rolls-Rows r)) ∙ fold-roll-RowShape Reading Row (Text × Row) reading_form row_form field_form (RowShape-F.Rows r)
+unfolding row_of extent_of named_row_of row_form
+row_of-Rows r = ap row_of (sym (row.rolls-Rows r)) ∙ fold-roll-RowShape Extent Row (Text × Row) extent_form row_form field_form (RowShape-F.Rows r)
 
 pub row_of-Part : (k : ℕ) (r : Bor RowShape) → row_of (row.Part k r) ≡ Part_of k (row_of r.now)
-unfolding row_of reading_of named_row_of row_form
-row_of-Part k r = ap row_of (sym (row.rolls-Part k r)) ∙ fold-roll-RowShape Reading Row (Text × Row) reading_form row_form field_form (RowShape-F.Part k r)
+unfolding row_of extent_of named_row_of row_form
+row_of-Part k r = ap row_of (sym (row.rolls-Part k r)) ∙ fold-roll-RowShape Extent Row (Text × Row) extent_form row_form field_form (RowShape-F.Part k r)
 
 pub row_of-Field : (f : Bor Text) (r : Bor RowShape) → row_of (row.Field f r) ≡ Field_of f.now (row_of r.now)
-unfolding row_of reading_of named_row_of row_form
-row_of-Field f r = ap row_of (sym (row.rolls-Field f r)) ∙ fold-roll-RowShape Reading Row (Text × Row) reading_form row_form field_form (RowShape-F.Field f r)
+unfolding row_of extent_of named_row_of row_form
+row_of-Field f r = ap row_of (sym (row.rolls-Field f r)) ∙ fold-roll-RowShape Extent Row (Text × Row) extent_form row_form field_form (RowShape-F.Field f r)
 
-pub row_of-Unzipped : (e : Bor (List Held_reading)) (r : Bor RowShape) → row_of (row.Unzipped e r) ≡ Unzipped_row (extent_of e.now) (row_of r.now)
-unfolding row_of reading_of named_row_of row_form
-row_of-Unzipped e r = ap row_of (sym (row.rolls-Unzipped e r)) ∙ fold-roll-RowShape Reading Row (Text × Row) reading_form row_form field_form (RowShape-F.Unzipped e r)
+pub row_of-Unzipped : (e : Held_extent) (r : Bor RowShape) → row_of (row.Unzipped e r) ≡ Unzipped_row (extent_of e) (row_of r.now)
+unfolding row_of extent_of named_row_of row_form
+row_of-Unzipped e r = ap row_of (sym (row.rolls-Unzipped e r)) ∙ fold-roll-RowShape Extent Row (Text × Row) extent_form row_form field_form (RowShape-F.Unzipped e r)
 
-pub row_of-First : (rs : Bor (List RowShape)) → row_of (row.First rs) ≡ First_of (rows (map row_of rs.now))
-unfolding row_of reading_of named_row_of row_form
-row_of-First rs = ap row_of (sym (row.rolls-First rs)) ∙ fold-roll-RowShape Reading Row (Text × Row) reading_form row_form field_form (RowShape-F.First rs)
+pub extent_of-Nowhere : extent_of extent.Nowhere ≡ Nowhere
+unfolding row_of extent_of named_row_of extent_form
+extent_of-Nowhere = ap extent_of (sym extent.rolls-Nowhere) ∙ fold-roll-Extent Extent Row (Text × Row) extent_form row_form field_form Extent-F.Nowhere
 
-pub reading_of-Exactly : (n : ℕ) → reading_of (reading.Exactly n) ≡ Exactly n
-unfolding row_of reading_of named_row_of reading_form
-reading_of-Exactly n = ap reading_of (sym (reading.rolls-Exactly n)) ∙ fold-roll-Reading Reading Row (Text × Row) reading_form row_form field_form (Reading-F.Exactly n)
+pub extent_of-Exactly : (n : ℕ) → extent_of (extent.Exactly n) ≡ Exactly n
+unfolding row_of extent_of named_row_of extent_form
+extent_of-Exactly n = ap extent_of (sym (extent.rolls-Exactly n)) ∙ fold-roll-Extent Extent Row (Text × Row) extent_form row_form field_form (Extent-F.Exactly n)
 
-pub reading_of-Worth : (u : Atom) → reading_of (reading.Worth u) ≡ Worth_of u
-unfolding row_of reading_of named_row_of reading_form
-reading_of-Worth u = ap reading_of (sym (reading.rolls-Worth u)) ∙ fold-roll-Reading Reading Row (Text × Row) reading_form row_form field_form (Reading-F.Worth u)
+pub extent_of-Worth : (u : Atom) → extent_of (extent.Worth u) ≡ Worth_of u
+unfolding row_of extent_of named_row_of extent_form
+extent_of-Worth u = ap extent_of (sym (extent.rolls-Worth u)) ∙ fold-roll-Extent Extent Row (Text × Row) extent_form row_form field_form (Extent-F.Worth u)
 
-pub reading_of-Length : (r : Bor RowShape) → reading_of (reading.Length r) ≡ Length_of (row_of r.now)
-unfolding row_of reading_of named_row_of reading_form
-reading_of-Length r = ap reading_of (sym (reading.rolls-Length r)) ∙ fold-roll-Reading Reading Row (Text × Row) reading_form row_form field_form (Reading-F.Length r)
+pub extent_of-Length : (r : Bor RowShape) → extent_of (extent.Length r) ≡ Length_of (row_of r.now)
+unfolding row_of extent_of named_row_of extent_form
+extent_of-Length r = ap extent_of (sym (extent.rolls-Length r)) ∙ fold-roll-Extent Extent Row (Text × Row) extent_form row_form field_form (Extent-F.Length r)
 
 pub named_row_of-parts : (f : FieldShape) → named_row_of f ≡ (f.name.now, row_of f.row)
-unfolding row_of reading_of named_row_of field_form
-named_row_of-parts f = fold_out-FieldShape Reading Row (Text × Row) reading_form row_form field_form f
+unfolding row_of extent_of named_row_of field_form
+named_row_of-parts f = fold_out-FieldShape Extent Row (Text × Row) extent_form row_form field_form f
 
 pub test_of-Any : test_of test.Any ≡ Any_size
 unfolding test_of named_test_of test_form
 test_of-Any = ap test_of (sym test.rolls-Any) ∙ fold-roll-SizeTest Size_test (Text × Size_test) test_form named_test_form SizeTest-F.Any
 
-pub test_of-Array : (e : Bor (List Held_reading)) (t : Bor SizeTest) → test_of (test.Array e t) ≡ Array_test (extent_of e.now) (test_of t.now)
+pub test_of-Array : (e : Held_extent) (t : Bor SizeTest) → test_of (test.Array e t) ≡ Array_test (extent_of e) (test_of t.now)
 unfolding test_of named_test_of test_form
 test_of-Array e t = ap test_of (sym (test.rolls-Array e t)) ∙ fold-roll-SizeTest Size_test (Text × Size_test) test_form named_test_form (SizeTest-F.Array e t)
 
@@ -111,11 +111,11 @@ pub action_of-Make : (m : Making) (at : Place) (us : Bor (List Atom)) → action
 unfolding action_of act_form
 action_of-Make m at us = ap action_of (sym (act.rolls-Make m at us)) ∙ fold-roll-Act Action Body (List ℕ × Action) act_form block_form step_form (open_act.Make m at us)
 
-pub action_of-Primitive : (p : Primitive) (at : Place) (r : RowShape) (us : Bor (List Atom)) (xs : Bor (List ℕ)) (b : Bor Block) → action_of (act.Primitive p at r us xs b) ≡ Job (row_of r) p at us.now xs.now (body_of b.now)
+pub action_of-Primitive : (p : Primitive) (at : Place) (r : Bor RowShape) (us : Bor (List Atom)) (xs : Bor (List ℕ)) (b : Bor Block) → action_of (act.Primitive p at r us xs b) ≡ Job (row_of r.now) p at us.now xs.now (body_of b.now)
 unfolding action_of body_of act_form
 action_of-Primitive p at r us xs b = ap action_of (sym (act.rolls-Primitive p at r us xs b)) ∙ fold-roll-Act Action Body (List ℕ × Action) act_form block_form step_form (open_act.Primitive p at r us xs b)
 
-pub action_of-Size : (e : Bor (List Held_reading)) → action_of (act.Size e) ≡ Size_of (extent_of e.now)
+pub action_of-Size : (e : Held_extent) → action_of (act.Size e) ≡ Size_of (extent_of e)
 unfolding action_of act_form
 action_of-Size e = ap action_of (sym (act.rolls-Size e)) ∙ fold-roll-Act Action Body (List ℕ × Action) act_form block_form step_form (open_act.Size e)
 
@@ -154,7 +154,7 @@ body_of-made r = body_of-parts (roll-Block r) ∙ ap (λ (z : Block-F Act Block 
 pub binding_of-made : (r : Step-F Act Block Step) → binding_of (roll-Step r) ≡ (r.names.now, action_of r.act)
 binding_of-made r = binding_of-parts (roll-Step r) ∙ ap (λ (z : Step-F Act Block Step). (z.names.now, action_of z.act)) (out-roll-Step r)
 
-pub ruleset row_forms = (row_of-Unknown, row_of-Scalar, row_of-Tuple, row_of-Record, row_of-Array, row_of-Data, row_of-Rows, row_of-Part, row_of-Field, row_of-Unzipped, row_of-First, reading_of-Exactly, reading_of-Worth, reading_of-Length, named_row_of-parts)
+pub ruleset row_forms = (row_of-Unknown, row_of-Scalar, row_of-Tuple, row_of-Record, row_of-Array, row_of-Data, row_of-Rows, row_of-Part, row_of-Field, row_of-Unzipped, extent_of-Nowhere, extent_of-Exactly, extent_of-Worth, extent_of-Length, named_row_of-parts)
 
 pub ruleset size_tests = (test_of-Any, test_of-Array, test_of-Tuple, test_of-Record, named_test_of-parts)
 

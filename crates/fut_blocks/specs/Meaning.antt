@@ -30,7 +30,7 @@ use Rattle.fut_blocks.specs.Rows.{Size_test}
 use Rattle.fut_blocks.specs.Plain.{Action, Operate, Tuple, Make, Read, Size_of, Coerce, If, For, Over, While, Body, Give, Let}
 use Rattle.fut_blocks.specs.Plain as act
 pub use Rattle.fut_blocks.specs.Names.{Component, Names, look, bound, fitted, value_of, values_of}
-pub use Rattle.fut_blocks.specs.Sizes.{row_met, row_shape, extent_worth, reading_worth, passes}
+pub use Rattle.fut_blocks.specs.Sizes.{row_shape, extent_worth, passes}
 
 -- data as a value of a program, which is where operations are said
 abbrev pub as_flat : Datum → FlatValue

@@ -4,7 +4,7 @@ use Rattle.std.specs.Prelude.{ℕ, List, [], ◌∷◌}
 use Rattle.fut_scalar.specs.declared.scalar.ScalarType.{ScalarType}
 use Rattle.fut_ast.specs.Sorts.{Text}
 use Rattle.fut_blocks.specs.declared.block.Atom.{Atom}
-use Rattle.fut_blocks.specs.declared.row.Reading.{Reading as Held_reading, Reading-F, fold-Reading}
+use Rattle.fut_blocks.specs.declared.row.Extent.{Extent as Held_extent, Extent-F, fold-Extent}
 use Rattle.fut_blocks.specs.declared.row.RowShape.{RowShape, RowShape-F, fold-RowShape}
 use Rattle.fut_blocks.specs.declared.row.FieldShape.{FieldShape, FieldShape-F, fold-FieldShape}
 use Rattle.fut_blocks.specs.declared.row.SizeTest.{SizeTest, SizeTest-F, fold-SizeTest}
@@ -28,8 +28,6 @@ mutual
     Field_of : Text → Row → Row
     -- a tuple of arrays, each of so many of one part of a tuple
     Unzipped_row : Extent → Row → Row
-    -- the first that is there
-    First_of : Rows → Row
 
   pub data Rows : Type 0 where
     no_row : Rows
@@ -40,17 +38,15 @@ mutual
     no_named_row : Named_rows
     named_row_and : Text → Row → Named_rows → Named_rows
 
-  -- an integer that a size is worth: what the first of these says that says one
+  -- an integer that a size is worth
   pub data Extent : Type 0 where
-    no_reading : Extent
-    reading_or : Reading → Extent → Extent
-
-  pub data Reading : Type 0 where
-    Exactly : ℕ → Reading
+    -- nothing tells it
+    Nowhere : Extent
+    Exactly : ℕ → Extent
     -- an integer that an atom stands for
-    Worth_of : Atom → Reading
+    Worth_of : Atom → Extent
     -- how many rows an array of this shape has
-    Length_of : Row → Reading
+    Length_of : Row → Extent
 
 -- the sizes that data has to have, wherever it has arrays there
 mutual
@@ -76,10 +72,6 @@ abbrev pub named_rows : List (Text × Row) → Named_rows
 named_rows [] = no_named_row
 named_rows (f ∷ fs) = named_row_and f.0 f.1 (named_rows fs)
 
-abbrev pub extent : List Reading → Extent
-extent [] = no_reading
-extent (g ∷ gs) = reading_or g (extent gs)
-
 abbrev pub tests : List Size_test → Size_tests
 tests [] = no_test
 tests (t ∷ ts) = test_and t (tests ts)
@@ -90,42 +82,39 @@ named_tests (f ∷ fs) = named_test_and f.0 f.1 (named_tests fs)
 
 -- ---- what the code has
 
-unfoldable pub row_form : RowShape-F Reading Row (Text × Row) → Row
+unfoldable pub row_form : RowShape-F Extent Row (Text × Row) → Row
 row_form RowShape-F.Unknown = Unknown_row
 row_form (RowShape-F.Scalar t) = Scalar_row t
 row_form (RowShape-F.Tuple rs) = Tuple_row (rows rs.now)
 row_form (RowShape-F.Record fs) = Record_row (named_rows fs.now)
-row_form (RowShape-F.Array e r) = Array_row (extent e.now) r.now
+row_form (RowShape-F.Array e r) = Array_row e r.now
 row_form (RowShape-F.Data u) = Shape_of u
 row_form (RowShape-F.Rows r) = Rows_of r.now
 row_form (RowShape-F.Part k r) = Part_of k r.now
 row_form (RowShape-F.Field f r) = Field_of f.now r.now
-row_form (RowShape-F.Unzipped e r) = Unzipped_row (extent e.now) r.now
-row_form (RowShape-F.First rs) = First_of (rows rs.now)
+row_form (RowShape-F.Unzipped e r) = Unzipped_row e r.now
 
-unfoldable pub reading_form : Reading-F Reading Row (Text × Row) → Reading
-reading_form (Reading-F.Exactly n) = Exactly n
-reading_form (Reading-F.Worth u) = Worth_of u
-reading_form (Reading-F.Length r) = Length_of r.now
+unfoldable pub extent_form : Extent-F Extent Row (Text × Row) → Extent
+extent_form Extent-F.Nowhere = Nowhere
+extent_form (Extent-F.Exactly n) = Exactly n
+extent_form (Extent-F.Worth u) = Worth_of u
+extent_form (Extent-F.Length r) = Length_of r.now
 
-unfoldable pub field_form : FieldShape-F Reading Row (Text × Row) → Text × Row
+unfoldable pub field_form : FieldShape-F Extent Row (Text × Row) → Text × Row
 field_form f = (f.name.now, f.row)
 
 unfoldable pub row_of : RowShape → Row
-row_of = fold-RowShape Reading Row (Text × Row) reading_form row_form field_form
+row_of = fold-RowShape Extent Row (Text × Row) extent_form row_form field_form
 
-unfoldable pub reading_of : Held_reading → Reading
-reading_of = fold-Reading Reading Row (Text × Row) reading_form row_form field_form
+unfoldable pub extent_of : Held_extent → Extent
+extent_of = fold-Extent Extent Row (Text × Row) extent_form row_form field_form
 
 unfoldable pub named_row_of : FieldShape → Text × Row
-named_row_of = fold-FieldShape Reading Row (Text × Row) reading_form row_form field_form
-
-abbrev pub extent_of : List Held_reading → Extent
-extent_of gs = extent (Rattle.std.specs.Prelude.map reading_of gs)
+named_row_of = fold-FieldShape Extent Row (Text × Row) extent_form row_form field_form
 
 unfoldable pub test_form : SizeTest-F Size_test (Text × Size_test) → Size_test
 test_form SizeTest-F.Any = Any_size
-test_form (SizeTest-F.Array e t) = Array_test (extent_of e.now) t.now
+test_form (SizeTest-F.Array e t) = Array_test (extent_of e) t.now
 test_form (SizeTest-F.Tuple ts) = Tuple_test (tests ts.now)
 test_form (SizeTest-F.Record fs) = Record_test (named_tests fs.now)
 

@@ -1,5 +1,5 @@
 // Blocks of steps.
-use crate::row::{Reading, RowShape, SizeTest};
+use crate::row::{Extent, RowShape, SizeTest};
 use fut_ast::End;
 use fut_flat::{Part, Primitive};
 use fut_scalar::{BinOp, DataType, Place, Scalar, ScalarType, UnOp};
@@ -28,7 +28,7 @@ pub enum Operation {
 pub enum Making<'a> {
     Tuple,
     /// The rows' shape stands for those that are missing where there are no parts.
-    Array(RowShape<'a>),
+    Array(&'a RowShape<'a>),
     Index(&'a [Part]),
     Update,
     Range { stepped: bool, end: End },
@@ -53,13 +53,13 @@ pub enum Act<'a> {
     Primitive {
         primitive: Primitive,
         place: Place,
-        row: RowShape<'a>,
+        row: &'a RowShape<'a>,
         data: &'a [Atom],
         params: &'a [u32],
         body: &'a Block<'a>,
     },
-    /// What a size is worth, as an i64: what the first of the readings says that says anything; 0 where none does, or below 0.
-    Size(&'a [Reading<'a>]),
+    /// What a size is worth, as an i64: what the extent says; 0 where it says nothing, or below 0.
+    Size(Extent<'a>),
     /// Data of this shape has to have these sizes. It gives nothing.
     Coerce(Place, &'a SizeTest<'a>, &'a RowShape<'a>),
     If(Atom, &'a Block<'a>, &'a Block<'a>),

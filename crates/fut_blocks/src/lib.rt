@@ -13,4 +13,4 @@ mod row;
 
 pub use block::{Act, Atom, Block, Making, Operation, Program, Step};
 pub use laws::programs_have_some_outcome;
-pub use row::{FieldShape, FieldTest, Reading, RowShape, SizeTest};
+pub use row::{Extent, FieldShape, FieldTest, RowShape, SizeTest};

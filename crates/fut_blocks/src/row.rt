@@ -12,29 +12,29 @@ pub enum RowShape<'a> {
     Tuple(&'a [RowShape<'a>]),
     /// Fields in order of their names.
     Record(&'a [FieldShape<'a>]),
-    /// As many rows of one shape as the first of the readings says that says anything; 0 where none does, or below 0.
-    Array(&'a [Reading<'a>], &'a RowShape<'a>),
+    /// As many rows of one shape as the extent says; 0 where it says nothing, or below 0.
+    Array(Extent<'a>, &'a RowShape<'a>),
     /// That of an atom's data.
     Data(Atom),
-    /// That of an array's rows.
+    /// That of an array's rows. What has no rows, no such part or no such field tells nothing.
     Rows(&'a RowShape<'a>),
     /// That of a tuple's part. The first has the number 0.
     Part(u32, &'a RowShape<'a>),
     Field(&'a str, &'a RowShape<'a>),
     /// A tuple of arrays, each of so many of one part of a tuple.
-    Unzipped(&'a [Reading<'a>], &'a RowShape<'a>),
-    /// The first that is there.
-    First(&'a [RowShape<'a>]),
+    Unzipped(Extent<'a>, &'a RowShape<'a>),
 }
 
 /// Where an integer stands that a size is worth.
 #[cycle(row)]
 #[derive(Clone, Copy)]
-pub enum Reading<'a> {
+pub enum Extent<'a> {
+    /// Nothing tells it.
+    Nowhere,
     Exactly(u64),
     /// An atom's integer.
     Worth(Atom),
-    /// How many rows an array of this shape has.
+    /// How many rows an array of this shape has; 0 where it is none.
     Length(&'a RowShape<'a>),
 }
 
@@ -46,12 +46,12 @@ pub struct FieldShape<'a> {
     pub row: RowShape<'a>,
 }
 
-/// The sizes that data has to have, wherever it has arrays there. A size that no reading tells agrees with each.
+/// The sizes that data has to have, wherever it has arrays there. A size that nothing tells agrees with each.
 #[cycle(wanted)]
 #[derive(Clone, Copy)]
 pub enum SizeTest<'a> {
     Any,
-    Array(&'a [Reading<'a>], &'a SizeTest<'a>),
+    Array(Extent<'a>, &'a SizeTest<'a>),
     Tuple(&'a [SizeTest<'a>]),
     Record(&'a [FieldTest<'a>]),
 }

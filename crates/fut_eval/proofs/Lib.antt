@@ -13,6 +13,7 @@ pub mod Rowing
 pub mod Folding
 pub mod Combining
 pub mod RowsMet
+pub mod Slotting
 pub mod Shaping
 pub mod Testing
 pub mod Finishing

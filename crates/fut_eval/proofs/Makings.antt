@@ -46,7 +46,7 @@ module _ (m : Making) (at : Place) (us : List Atom) (t s : List Component) where
       (runs_next n t t s s' (values_of env us) (λ vs. Val (Tuple_datum (datums vs) ∷ [])) ds (Ok tt) (h env n st)
       (ran (d ∷ []) 0 p (tt, tt) (kept_same n t) (the_is (Val (Tuple_datum (datums ds) ∷ [])) (Val (d ∷ [])) (ap (λ z. Val (z ∷ [])) (sym e)))))
 
-  pub array_act : (w : RowShape) (s' : List Component) (r : Answer) → m ≡ make.Array w → Made_runs (Make (row_of w) Make_array at us) t s s' r → Made_runs (making_form m at us) t s s' r
+  pub array_act : (w : Bor RowShape) (s' : List Component) (r : Answer) → m ≡ make.Array w → Made_runs (Make (row_of w.now) Make_array at us) t s s' r → Made_runs (making_form m at us) t s s' r
   unfolding making_form
   array_act w s' r q h = subst (λ z. Made_runs (making_form z at us) t s s' r) (sym q) h
 

@@ -41,7 +41,7 @@ tells_found : (q : Option Component) (d : Component) (r : Result Component Stop)
 tells_found q d r (inl e) h = lost (ap or_wrong e)
 tells_found q d r (inr e) h = subst (λ z. Tells (or_wrong z) r) (sym e) h
 
-stands_at : (table : List Data) (x : ℕ) (d : Data) → x < length table → (env : Names Component) (n : ℕ) → Stands env n (held_all table) → (look env x ≡ None) ⊎ (look env x ≡ Some (held (get_or table x d)))
+pub stands_at : (table : List Data) (x : ℕ) (d : Data) → x < length table → (env : Names Component) (n : ℕ) → Stands env n (held_all table) → (look env x ≡ None) ⊎ (look env x ≡ Some (held (get_or table x d)))
 stands_at table x d l env n st =
     found (look env x) (slice_get (held_all table) x) (held (get_or table x d)) (λ v q. (st.each x v q).1)
     (slice_get-get_or (held_all table) x (held d) (omega (arith, held_length table)) ∙ ap Some (held_get table x d))

@@ -5,8 +5,8 @@ use Rattle.fut_meaning.specs.Accessors.{or_wrong}
 use Rattle.fut_blocks.specs.declared.block.Atom.{Atom}
 use Rattle.fut_blocks.specs.declared.block.Atom.TheVariants as atom
 use Rattle.fut_blocks.specs.Meaning.{Component, Names, look, value_of}
-use Rattle.fut_blocks.specs.Rows.{Row, Unknown_row, Scalar_row, Tuple_row, Record_row, Array_row, Shape_of, Rows_of, Part_of, Field_of, Unzipped_row, First_of, Rows, no_row, row_and, Named_rows, no_named_row, named_row_and, Extent, no_reading, reading_or, Reading, Exactly, Worth_of, Length_of}
-use Rattle.fut_blocks.specs.Sizes.{or_later, met_or_unmet, row_met, row_shape, row_shapes, named_shapes, first_met, extent_worth, reading_worth}
+use Rattle.fut_blocks.specs.Rows.{Row, Unknown_row, Scalar_row, Tuple_row, Record_row, Array_row, Shape_of, Rows_of, Part_of, Field_of, Unzipped_row, Rows, no_row, row_and, Named_rows, no_named_row, named_row_and, Extent, Nowhere, Exactly, Worth_of, Length_of}
+use Rattle.fut_blocks.specs.Sizes.{row_shape, row_shapes, named_shapes, extent_worth}
 
 abbrev pub Reported : {A : Type 0} → Out A → Type 0
 Reported (Val a) = ⊥
@@ -18,10 +18,6 @@ no_report_then (Val a) k h g = g a
 no_report_then (Fail r) k h g = h
 no_report_then Wrong k h g = λ x. x
 
-no_report_later : {A : Type 0} (a : Option A) (o : Out (Option A)) → (Reported o → ⊥) → Reported (or_later a o) → ⊥
-no_report_later (Some a) o h = λ x. x
-no_report_later None o h = h
-
 no_report_found : {A : Type 0} (o : Option A) → Reported (or_wrong o) → ⊥
 no_report_found (Some a) = λ x. x
 no_report_found None = λ x. x
@@ -32,39 +28,28 @@ value_reports env (atom.Constant s) = λ x. x
 
 module _ (env : Names Component) where
   mutual
-    met_reports : (r : Row) → Reported (row_met env r) → ⊥
-    met_reports Unknown_row = λ x. x
-    met_reports (Scalar_row t) = λ x. x
-    met_reports (Tuple_row rs) = no_report_then (row_shapes env rs) _ (rows_report rs) (λ a x. x)
-    met_reports (Record_row fs) = no_report_then (named_shapes env fs) _ (named_report fs) (λ a x. x)
-    met_reports (Array_row e r) = no_report_then (extent_worth env e) _ (extent_reports e) (λ z. no_report_then (and_then (row_met env r) met_or_unmet) _ (no_report_then (row_met env r) met_or_unmet (met_reports r) (λ o x. x)) (λ a x. x))
-    met_reports (Shape_of u) = no_report_then (value_of env u) _ (value_reports env u) (λ a x. x)
-    met_reports (Rows_of r) = no_report_then (row_met env r) _ (met_reports r) (λ a x. x)
-    met_reports (Part_of k r) = no_report_then (row_met env r) _ (met_reports r) (λ a x. x)
-    met_reports (Field_of f r) = no_report_then (row_met env r) _ (met_reports r) (λ a x. x)
-    met_reports (Unzipped_row e r) = no_report_then (extent_worth env e) _ (extent_reports e) (λ z. no_report_then (and_then (row_met env r) met_or_unmet) _ (no_report_then (row_met env r) met_or_unmet (met_reports r) (λ o x. x)) (λ a x. x))
-    met_reports (First_of rs) = first_reports rs
+    pub row_reports : (r : Row) → Reported (row_shape env r) → ⊥
+    row_reports Unknown_row = λ x. x
+    row_reports (Scalar_row t) = λ x. x
+    row_reports (Tuple_row rs) = no_report_then (row_shapes env rs) _ (rows_report rs) (λ a x. x)
+    row_reports (Record_row fs) = no_report_then (named_shapes env fs) _ (named_report fs) (λ a x. x)
+    row_reports (Array_row e r) = no_report_then (extent_worth env e) _ (extent_reports e) (λ z. no_report_then (row_shape env r) _ (row_reports r) (λ a x. x))
+    row_reports (Shape_of u) = no_report_then (value_of env u) _ (value_reports env u) (λ a x. x)
+    row_reports (Rows_of r) = no_report_then (row_shape env r) _ (row_reports r) (λ a x. x)
+    row_reports (Part_of k r) = no_report_then (row_shape env r) _ (row_reports r) (λ a x. x)
+    row_reports (Field_of f r) = no_report_then (row_shape env r) _ (row_reports r) (λ a x. x)
+    row_reports (Unzipped_row e r) = no_report_then (extent_worth env e) _ (extent_reports e) (λ z. no_report_then (row_shape env r) _ (row_reports r) (λ a x. x))
 
     rows_report : (rs : Rows) → Reported (row_shapes env rs) → ⊥
     rows_report no_row = λ x. x
-    rows_report (row_and r rs) = no_report_then (and_then (row_met env r) met_or_unmet) _ (no_report_then (row_met env r) met_or_unmet (met_reports r) (λ o x. x)) (λ h. no_report_then (row_shapes env rs) _ (rows_report rs) (λ a x. x))
+    rows_report (row_and r rs) = no_report_then (row_shape env r) _ (row_reports r) (λ h. no_report_then (row_shapes env rs) _ (rows_report rs) (λ a x. x))
 
     named_report : (fs : Named_rows) → Reported (named_shapes env fs) → ⊥
     named_report no_named_row = λ x. x
-    named_report (named_row_and f r fs) = no_report_then (and_then (row_met env r) met_or_unmet) _ (no_report_then (row_met env r) met_or_unmet (met_reports r) (λ o x. x)) (λ h. no_report_then (named_shapes env fs) _ (named_report fs) (λ a x. x))
-
-    first_reports : (rs : Rows) → Reported (first_met env rs) → ⊥
-    first_reports no_row = λ x. x
-    first_reports (row_and r rs) = no_report_then (row_met env r) _ (met_reports r) (λ o. no_report_later o (first_met env rs) (first_reports rs))
+    named_report (named_row_and f r fs) = no_report_then (row_shape env r) _ (row_reports r) (λ h. no_report_then (named_shapes env fs) _ (named_report fs) (λ a x. x))
 
     extent_reports : (e : Extent) → Reported (extent_worth env e) → ⊥
-    extent_reports no_reading = λ x. x
-    extent_reports (reading_or g gs) = no_report_then (reading_worth env g) _ (reading_reports g) (λ o. no_report_later o (extent_worth env gs) (extent_reports gs))
-
-    reading_reports : (g : Reading) → Reported (reading_worth env g) → ⊥
-    reading_reports (Exactly n) = λ x. x
-    reading_reports (Worth_of u) = no_report_then (value_of env u) _ (value_reports env u) (λ a x. x)
-    reading_reports (Length_of r) = no_report_then (row_met env r) _ (met_reports r) (λ a x. x)
-
-  pub row_reports : (r : Row) → Reported (row_shape env r) → ⊥
-  row_reports r = no_report_then (row_met env r) met_or_unmet (met_reports r) (λ o x. x)
+    extent_reports Nowhere = λ x. x
+    extent_reports (Exactly n) = λ x. x
+    extent_reports (Worth_of u) = no_report_then (value_of env u) _ (value_reports env u) (λ a x. x)
+    extent_reports (Length_of r) = no_report_then (row_shape env r) _ (row_reports r) (λ a x. x)

@@ -1,5 +1,5 @@
 -- Sizes as numbers, and tests of sizes.
-use Rattle.std.proofs.Common.{◌≡◌, ℕ, zero, suc, ◌+◌, ◌<◌, ◌≤◌, List, [], ◌∷◌, map, length, get_or, drop, Option, Some, None, Ok, Err, Result, Bool, true, false, refl, sym, ap, ◌∙◌, subst, arith, add-one, Bor}
+use Rattle.std.proofs.Common.{◌≡◌, ℕ, suc, ◌+◌, ◌<◌, ◌≤◌, List, [], ◌∷◌, map, length, get_or, drop, Option, Some, None, Ok, Err, Result, Bool, true, false, refl, sym, ap, ◌∙◌, subst, add-one, Bor}
 use Rattle.std.specs.Prelude.{pos}
 use Rattle.std.proofs.Math.Seq.{drop-cons}
 use Rattle.std.proofs.lemmas.List.{append-nil}
@@ -11,18 +11,19 @@ use Rattle.fut_scalar.specs.declared.scalar.ScalarType.{ScalarType}
 use Rattle.fut_ast.specs.Sorts.{Text}
 use Rattle.fut_value.specs.Data.{Shape, Unmet_shape, Named_shapes, Scalar_datum}
 use Rattle.fut_meaning.specs.Arrays.{checked}
-use Rattle.fut_meaning.specs.Found.{agrees, count, field_shape}
+use Rattle.fut_meaning.specs.Found.{agrees, count}
 use Rattle.fut_meaning.specs.Operations.{report}
 use Rattle.fut_meaning.specs.Operators.{integer}
-use Rattle.fut_meaning.specs.Outcomes.{Out, Val, Fail, and_then, the}
+use Rattle.fut_meaning.specs.Outcomes.{Out, Val, Fail, Wrong, and_then, the}
+use Rattle.fut_meaning.specs.Places.{field_shape}
+use Rattle.fut_blocks.specs.declared.row.Extent.{Extent as Held_extent}
 use Rattle.fut_blocks.specs.declared.row.FieldTest.{FieldTest}
-use Rattle.fut_blocks.specs.declared.row.Reading.{Reading as Held_reading}
 use Rattle.fut_blocks.specs.declared.row.SizeTest.{SizeTest}
 use Rattle.fut_blocks.specs.declared.row.SizeTest.TheVariants as test
 use Rattle.fut_blocks.specs.Meaning.{Component, Names, size_given, sizes_tested, act_means}
 use Rattle.fut_blocks.specs.Plain.{Size_of}
 use Rattle.fut_blocks.specs.Rows.{Row, Extent, Size_test, Array_test, tests, named_tests, extent_of, test_of}
-use Rattle.fut_blocks.specs.Sizes.{row_shape, extent_worth, shape_at, where_there, and_also, passes, all_pass, named_pass}
+use Rattle.fut_blocks.specs.Sizes.{row_shape, extent_worth, where_there, and_also, passes, all_pass, named_pass}
 use Rattle.fut_blocks.proofs.Layers.{test_of-Any, test_of-Array, test_of-Tuple, test_of-Record, named_test_of-parts}
 use Rattle.array_data.specs.declared.form.Form.{Form}
 use Rattle.array_data.specs.declared.form.Form.TheVariants as form
@@ -34,11 +35,10 @@ use Rattle.array_data.specs.declared.data.Data.TheVariants as hold
 use Rattle.array_data.specs.Held.{shape_held, shapes, named_shapes, held}
 use Rattle.array_data.proofs.Forms.{drop_past}
 use Rattle.array_data.proofs.Holding.{held_scalar, form_unmet, form_scalar, form_tuple, form_record, form_array}
-use Rattle.form_parts.specs.Met.{exact_met, as_placed}
+use Rattle.form_parts.specs.Met.{exact_met, found_held, as_found}
 use Rattle.fut_eval.specs.Answers.{Answer, Stands, Runs, ran, failed, no_memory, Pushed, pushed, not_pushed}
 use Rattle.fut_eval.specs.Runs.{Coerces, Made_runs}
 use Rattle.fut_eval.specs.Shapes.{Row_told, Extent_told, Passes, Rows_pass, All_pass, Named_pass, Field_passes, tested_fields}
-use Rattle.fut_eval.proofs.Shaping.{Rests_with, rests_with, rests_wrong, rest_tells}
 use Rattle.fut_eval.proofs.Tells.{the_is, tells_then, tells_stop, runs_next, runs_stop, kept_same}
 
 -- ---- acts
@@ -106,8 +106,8 @@ module _ (t : List Component) (w : SizeTest) (f : Form) where
   pub any_passes : w ≡ test.Any → Passes t (test_of w) (shape_held f) (Ok true)
   any_passes e = as_test _ (shape_held f) (Ok true) (ap test_of e ∙ test_of-Any) refl (λ env n st. told refl)
 
-  pub array_passes : (gs : Bor (List Held_reading)) (v : Bor SizeTest) (r : Result Bool Stop) → w ≡ test.Array gs v → Passes t (Array_test (extent_of gs.now) (test_of v.now)) (shape_held f) r → Passes t (test_of w) (shape_held f) r
-  array_passes gs v r e h = subst (λ z. Passes t z (shape_held f) r) (sym (ap test_of e ∙ test_of-Array gs v)) h
+  pub array_passes : (x : Held_extent) (v : Bor SizeTest) (r : Result Bool Stop) → w ≡ test.Array x v → Passes t (Array_test (extent_of x) (test_of v.now)) (shape_held f) r → Passes t (test_of w) (shape_held f) r
+  array_passes x v r e h = subst (λ z. Passes t z (shape_held f) r) (sym (ap test_of e ∙ test_of-Array x v)) h
 
   module _ (ts : Bor (List SizeTest)) (e : w ≡ test.Tuple ts) where
     pub tuple_passes : (hs : List Form) (r : Result Bool Stop) → f ≡ form.Tuple hs → All_pass t (map test_of ts.now) (map shape_held hs) r → Passes t (test_of w) (shape_held f) r
@@ -192,6 +192,15 @@ module _ (t : List Component) (x : Extent) (v : Size_test) (m : ℕ) (h : Shape)
 pub ruleset rows_tests = (rows_unsized, rows_differ, rows_agree)
 
 -- ---- all parts
+
+-- it is what the rest says, or wrong
+pub data Rests_with {A : Type 0} (o rest : Out A) : Type 0 where
+  rests_with : o ≡ rest → Rests_with o rest
+  rests_wrong : o ≡ Wrong → Rests_with o rest
+
+rest_tells : {A : Type 0} (o rest : Out A) (r : Result A Stop) → Rests_with o rest → Tells rest r → Tells o r
+rest_tells o rest r (rests_with e) h = subst (λ z. Tells z r) (sym e) h
+rest_tells o rest r (rests_wrong e) h = lost e
 
 -- one that passes is left behind
 passed_by : (o rest p later : Out Bool) → Rests_with o rest → rest ≡ and_then p (λ b. and_also b later) → Tells p (Ok true) → Rests_with o later
@@ -288,37 +297,27 @@ module _ (t : List Component) (ws : List FieldTest) (hs : Named_shapes) where
 
 pub ruleset named_tests_pass = (named_start, named_end, named_stop, named_fail, named_more)
 
-past_forms : (hs : List Form) (i : ℕ) → length hs ≤ i → shape_at i (shapes (map shape_held hs)) ≡ None
-past_forms [] i l = refl
-past_forms (f ∷ fs) zero l = absurd (omega arith)
-past_forms (f ∷ fs) (suc i) l = past_forms fs i (omega arith)
-
-at_forms : (hs : List Form) (i : ℕ) (f : Form) → i < length hs → shape_at i (shapes (map shape_held hs)) ≡ Some (shape_held (get_or hs i f))
-at_forms [] i f l = absurd (omega arith)
-at_forms (g ∷ fs) zero f l = refl
-at_forms (g ∷ fs) (suc i) f l = at_forms fs i f (omega arith)
-
 module _ (t : List Component) (f : Text) (v : Size_test) (ns : List Text) (hs : List Form) where
-  pub field_unplaced : (x : Stop) → Tells (Val (field_shape f (named_shapes ns (map shape_held hs)))) (as_placed hs (Err x)) → Field_passes t f v (named_shapes ns (map shape_held hs)) (Err x)
+  pub field_unplaced : (x : Stop) → Tells (Val (field_shape f (named_shapes ns (map shape_held hs)))) (as_found (Err x)) → Field_passes t f v (named_shapes ns (map shape_held hs)) (Err x)
   unfolding Field_passes
   field_unplaced _ no_memory_told env n st = no_memory_told
   field_unplaced _ (report_told e) env n st = cc
   field_unplaced _ (lost e) env n st = cc
 
-  placed : (o : Option Shape) (r : Result Bool Stop) → Tells (Val (field_shape f (named_shapes ns (map shape_held hs)))) (Ok o) → ((env : Names Component) (n : ℕ) → Stands env n t → Tells (where_there o (passes env v)) r) → Field_passes t f v (named_shapes ns (map shape_held hs)) r
-  unfolding Field_passes
-  placed o r (told e) k env n st = let q : field_shape f (named_shapes ns (map shape_held hs)) ≡ o = cc in subst (λ z. Tells (where_there z (passes env v)) r) (sym q) (k env n st)
-  placed o r (lost e) k env n st = cc
+  module _ (o : Option (Bor Form)) where
+    placed : (r : Result Bool Stop) → Tells (Val (field_shape f (named_shapes ns (map shape_held hs)))) (as_found (Ok o)) → ((env : Names Component) (n : ℕ) → Stands env n t → Tells (where_there (found_held o) (passes env v)) r) → Field_passes t f v (named_shapes ns (map shape_held hs)) r
+    unfolding Field_passes
+    placed r h k env n st = by_place h
+      where
+        by_place : Tells (Val (field_shape f (named_shapes ns (map shape_held hs)))) (Ok (found_held o)) → Tells (where_there (field_shape f (named_shapes ns (map shape_held hs))) (passes env v)) r
+        by_place (told e) = let q : field_shape f (named_shapes ns (map shape_held hs)) ≡ found_held o = cc in subst (λ z. Tells (where_there z (passes env v)) r) (sym q) (k env n st)
+        by_place (lost e) = cc
 
-  pub field_nowhere : Tells (Val (field_shape f (named_shapes ns (map shape_held hs)))) (as_placed hs (Ok None)) → Field_passes t f v (named_shapes ns (map shape_held hs)) (Ok true)
-  field_nowhere h = placed None (Ok true) h (λ env n st. told refl)
+    pub field_nowhere : o ≡ None → Tells (Val (field_shape f (named_shapes ns (map shape_held hs)))) (as_found (Ok o)) → Field_passes t f v (named_shapes ns (map shape_held hs)) (Ok true)
+    field_nowhere e h = placed (Ok true) h (λ env n st. told (ap (λ z. where_there (found_held z) (passes env v)) e))
 
-  module _ (i : ℕ) (h : Tells (Val (field_shape f (named_shapes ns (map shape_held hs)))) (as_placed hs (Ok (Some i)))) where
-    pub field_past : length hs ≤ i → Field_passes t f v (named_shapes ns (map shape_held hs)) (Ok true)
-    field_past l = placed (shape_at i (shapes (map shape_held hs))) (Ok true) h (λ env n st. told (ap (λ z. where_there z (passes env v)) (past_forms hs i l)))
-
-    pub field_passed : (g : Form) (r : Result Bool Stop) → i < length hs → Passes t v (shape_held (get_or hs i g)) r → Field_passes t f v (named_shapes ns (map shape_held hs)) r
+    pub field_passed : (b : Bor Form) (r : Result Bool Stop) → o ≡ Some b → Tells (Val (field_shape f (named_shapes ns (map shape_held hs)))) (as_found (Ok o)) → Passes t v (shape_held b.now) r → Field_passes t f v (named_shapes ns (map shape_held hs)) r
     unfolding Passes
-    field_passed g r l k = placed (shape_at i (shapes (map shape_held hs))) r h (λ env n st. subst (λ z. Tells (where_there z (passes env v)) r) (sym (at_forms hs i g l)) (k env n st))
+    field_passed b r e h k = placed r h (λ env n st. subst (λ z. Tells (where_there (found_held z) (passes env v)) r) (sym e) (k env n st))
 
-pub ruleset field_tests = (field_unplaced, field_nowhere, field_past, field_passed)
+pub ruleset field_tests = (field_unplaced, field_nowhere, field_passed)

@@ -1,16 +1,16 @@
 -- What is told of shapes and sizes, whatever names stand in the table.
-use Rattle.std.specs.Prelude.{◌≡◌, ℕ, ℤ, Bool, List, map, Option, Result, Ok, Err}
+use Rattle.std.specs.Prelude.{◌≡◌, ℕ, ℤ, pos, Bool, List, map, Option, Some, Result, Ok, Err}
 use Rattle.fut_ast.specs.Sorts.{Text}
-use Rattle.fut_value.specs.Data.{Shape, Named_shapes, shape_of}
+use Rattle.fut_value.specs.Data.{Shape, Named_shapes}
 use Rattle.fut_meaning.specs.Arrays.{each_out}
-use Rattle.fut_meaning.specs.Found.{agrees, field_shape}
-use Rattle.fut_meaning.specs.Outcomes.{Val, and_then}
-use Rattle.fut_blocks.specs.declared.block.Atom.{Atom}
+use Rattle.fut_meaning.specs.Found.{agrees}
+use Rattle.fut_meaning.specs.Outcomes.{and_then}
+use Rattle.fut_meaning.specs.Places.{field_shape}
 use Rattle.fut_blocks.specs.declared.row.FieldShape.{FieldShape}
 use Rattle.fut_blocks.specs.declared.row.FieldTest.{FieldTest}
-use Rattle.fut_blocks.specs.Meaning.{Component, Names, value_of}
-use Rattle.fut_blocks.specs.Rows.{Row, Extent, Reading, Size_test, row_of, rows, tests, named_tests, named_test_of}
-use Rattle.fut_blocks.specs.Sizes.{datum_worth, length_in, row_met, row_shape, first_met, extent_worth, reading_worth, where_there, and_also, passes, all_pass, named_pass}
+use Rattle.fut_blocks.specs.Meaning.{Component, Names}
+use Rattle.fut_blocks.specs.Rows.{Row, Extent, Size_test, row_of, tests, named_tests, named_test_of}
+use Rattle.fut_blocks.specs.Sizes.{row_shape, extent_worth, where_there, and_also, passes, all_pass, named_pass}
 use Rattle.array_data.specs.declared.form.Form.{Form}
 use Rattle.array_data.specs.declared.sizes.Exact.{Exact}
 use Rattle.array_data.specs.declared.stop.Stop.{Stop}
@@ -18,10 +18,6 @@ use Rattle.array_data.specs.Answers.{Tells}
 use Rattle.array_data.specs.Held.{shape_held, shapes}
 use Rattle.form_parts.specs.Met.{exact_met}
 use Rattle.fut_eval.specs.Answers.{Stands}
-
-abbrev pub as_shape : Result Form Stop → Result Shape Stop
-as_shape (Ok h) = Ok (shape_held h)
-as_shape (Err e) = Err e
 
 abbrev pub as_shapes : Result (List Form) Stop → Result (List Shape) Stop
 as_shapes (Ok hs) = Ok (map shape_held hs)
@@ -31,19 +27,17 @@ abbrev pub as_size : Result (Option Exact) Stop → Result (Option ℤ) Stop
 as_size (Ok z) = Ok (exact_met z)
 as_size (Err e) = Err e
 
--- ---- shapes
+abbrev pub as_length : Result ℕ Stop → Result (Option ℤ) Stop
+as_length (Ok n) = Ok (Some (pos n))
+as_length (Err e) = Err e
 
-unfoldable pub Row_met : List Component → Row → Result (Option Shape) Stop → Type 0
-Row_met table row r = (env : Names Component) (n : ℕ) → Stands env n table → Tells (row_met env row) r
+-- ---- shapes and sizes
 
 unfoldable pub Row_told : List Component → Row → Result Shape Stop → Type 0
 Row_told table row r = (env : Names Component) (n : ℕ) → Stands env n table → Tells (row_shape env row) r
 
 unfoldable pub Rows_told : List Component → List Row → Result (List Shape) Stop → Type 0
 Rows_told table rows r = (env : Names Component) (n : ℕ) → Stands env n table → Tells (each_out (row_shape env) rows) r
-
-unfoldable pub First_told : List Component → List Row → Result (Option Shape) Stop → Type 0
-First_told table rs r = (env : Names Component) (n : ℕ) → Stands env n table → Tells (first_met env (rows rs)) r
 
 abbrev pub field_rows : List FieldShape → List Row
 field_rows fs = map (λ f. row_of f.row) fs
@@ -53,19 +47,8 @@ pub data Missing_told (table : List Component) (row : Row) (many : ℕ) : Result
   looked_up : {r : Result Shape Stop} → Row_told table row r → Missing_told table row many r
   not_missing : {h : Shape} → (many ≡ 0 → ⊥) → Missing_told table row many (Ok h)
 
--- ---- sizes
-
 unfoldable pub Extent_told : List Component → Extent → Result (Option ℤ) Stop → Type 0
 Extent_told table e r = (env : Names Component) (n : ℕ) → Stands env n table → Tells (extent_worth env e) r
-
-unfoldable pub Reading_told : List Component → Reading → Result (Option ℤ) Stop → Type 0
-Reading_told table g r = (env : Names Component) (n : ℕ) → Stands env n table → Tells (reading_worth env g) r
-
-unfoldable pub Worth_at : List Component → Atom → Result (Option ℤ) Stop → Type 0
-Worth_at table u r = (env : Names Component) (n : ℕ) → Stands env n table → Tells (and_then (value_of env u) (λ d. Val (datum_worth d))) r
-
-unfoldable pub Length_at : List Component → Atom → Result (Option ℤ) Stop → Type 0
-Length_at table u r = (env : Names Component) (n : ℕ) → Stands env n table → Tells (and_then (value_of env u) (λ d. Val (length_in (shape_of d)))) r
 
 -- ---- tests of sizes
 

@@ -94,7 +94,7 @@ fn run_act(
         } => run_primitive(
             alloc, *primitive, *place, missing, data, own, params, body, turns, table, stack,
         ),
-        Act::Size(readings) => put_size(alloc, readings, table, stack),
+        Act::Size(extent) => put_size(alloc, extent, table, stack),
         Act::Coerce(place, test, row) => coerce(alloc, *place, test, row, table),
         Act::ForEach {
             params,

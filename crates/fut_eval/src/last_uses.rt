@@ -2,13 +2,10 @@
 //
 // One walk over a program of blocks, from its end to its begin, tells. Of the branches of an `if` the second is walked first,
 // and its uses do not count while the first is walked. The body of a loop or of a function is run again and again, so it
-// gives up names of its own alone: those from its first parameter on, since names rise.
-use crate::shapes::MOST_DEEP;
+// gives up names of its own alone: those from its first parameter on, since names rise. What a row or a size looks at is no use:
+// how an array that was given up looked like stays known (`slots`).
 use crate::slots::{Branch, Moves};
-use fut_blocks::{
-    Act, Atom, Block, FieldShape, FieldTest, Making, Operation, Program, Reading, RowShape,
-    SizeTest, Step,
-};
+use fut_blocks::{Act, Atom, Block, Making, Operation, Program, Step};
 use fut_flat::Primitive;
 use fut_scalar::NoMemory;
 use std::alloc::Global;
@@ -136,15 +133,12 @@ fn walk_act(act: &Act, own: &[u32], first: u32, uses: &mut Uses) -> Result<(), N
             if let Making::Update = making {
                 uses.mark(own, atoms, first, Branch::First);
             }
-            if let Making::Array(row) = making {
-                meet_row(row, MOST_DEEP, uses)?;
-            }
             uses.meet_all(atoms);
         }
         Act::Primitive {
             primitive,
             place: _,
-            row,
+            row: _,
             data,
             params,
             body,
@@ -153,14 +147,9 @@ fn walk_act(act: &Act, own: &[u32], first: u32, uses: &mut Uses) -> Result<(), N
             if let Primitive::Scatter | Primitive::ReduceByIndex = primitive {
                 uses.mark(own, data, first, Branch::First);
             }
-            meet_row(row, MOST_DEEP, uses)?;
             uses.meet_all(data);
         }
-        Act::Size(readings) => meet_readings(readings, MOST_DEEP, uses)?,
-        Act::Coerce(_, test, row) => {
-            meet_test(test, MOST_DEEP, uses)?;
-            meet_row(row, MOST_DEEP, uses)?;
-        }
+        Act::Size(_) | Act::Coerce(_, _, _) => {}
         Act::If(condition, yes, no) => {
             uses.mark(own, yes.results, first, Branch::First);
             uses.mark(own, no.results, first, Branch::Second);
@@ -221,92 +210,6 @@ fn walk_branches(yes: &Block, no: &Block, first: u32, uses: &mut Uses) -> Result
 fn meet_first(params: &[u32], values: &[Atom], first: u32, uses: &mut Uses) {
     uses.mark(params, values, first, Branch::First);
     uses.meet_all(values);
-}
-
-/// What tells a shape is used, which is no deeper than there is room.
-#[cycle(row)]
-fn meet_row(row: &RowShape, room: u32, uses: &mut Uses) -> Result<(), NoMemory> {
-    if room == 0 {
-        return Err(NoMemory);
-    }
-    match row {
-        RowShape::Unknown | RowShape::Scalar(_) => Ok(()),
-        RowShape::Data(atom) => {
-            uses.meet(*atom);
-            Ok(())
-        }
-        RowShape::Tuple(rows) | RowShape::First(rows) => meet_rows(rows, room - 1, uses),
-        RowShape::Record(fields) => meet_fields(fields, room - 1, uses),
-        RowShape::Array(readings, inner) | RowShape::Unzipped(readings, inner) => {
-            meet_readings(readings, room - 1, uses)?;
-            meet_row(inner, room - 1, uses)
-        }
-        RowShape::Rows(whole) | RowShape::Part(_, whole) | RowShape::Field(_, whole) => {
-            meet_row(whole, room - 1, uses)
-        }
-    }
-}
-
-#[cycle(row)]
-fn meet_rows(rows: &[RowShape], room: u32, uses: &mut Uses) -> Result<(), NoMemory> {
-    for row in rows {
-        meet_row(row, room, uses)?;
-    }
-    Ok(())
-}
-
-#[cycle(row)]
-fn meet_fields(fields: &[FieldShape], room: u32, uses: &mut Uses) -> Result<(), NoMemory> {
-    for field in fields {
-        meet_row(&field.row, room, uses)?;
-    }
-    Ok(())
-}
-
-/// Where a size is read is used.
-#[cycle(row)]
-fn meet_readings(readings: &[Reading], room: u32, uses: &mut Uses) -> Result<(), NoMemory> {
-    for reading in readings {
-        match reading {
-            Reading::Exactly(_) => {}
-            Reading::Worth(atom) => uses.meet(*atom),
-            Reading::Length(row) => meet_row(row, room, uses)?,
-        }
-    }
-    Ok(())
-}
-
-/// Where the sizes are read that data has to have is used.
-#[cycle(tested)]
-fn meet_test(test: &SizeTest, room: u32, uses: &mut Uses) -> Result<(), NoMemory> {
-    if room == 0 {
-        return Err(NoMemory);
-    }
-    match test {
-        SizeTest::Any => Ok(()),
-        SizeTest::Array(readings, rows) => {
-            meet_readings(readings, MOST_DEEP, uses)?;
-            meet_test(rows, room - 1, uses)
-        }
-        SizeTest::Tuple(tests) => meet_tests(tests, room - 1, uses),
-        SizeTest::Record(fields) => meet_tested(fields, room - 1, uses),
-    }
-}
-
-#[cycle(tested)]
-fn meet_tests(tests: &[SizeTest], room: u32, uses: &mut Uses) -> Result<(), NoMemory> {
-    for test in tests {
-        meet_test(test, room, uses)?;
-    }
-    Ok(())
-}
-
-#[cycle(tested)]
-fn meet_tested(fields: &[FieldTest], room: u32, uses: &mut Uses) -> Result<(), NoMemory> {
-    for field in fields {
-        meet_test(&field.test, room, uses)?;
-    }
-    Ok(())
 }
 
 /// The operands of an operation are used.

@@ -3,8 +3,9 @@
 //! The values of names stand in a table by their numbers, so that a name is read at once; the values that an act gives lie
 //! on a stack until names are bound to them. Neither grows with the turns of a loop. Where nothing names an array later, the
 //! table gives it up, so that an update of it writes it where it stands: a walk over the program, before it runs, tells where.
-//! Contracts see nothing of that; to read an array that was given up would answer want of memory. The theorem of this crate is
-//! the contract of [`eval`]: its answer is an outcome that the meaning allows, or that memory ran out.
+//! Contracts see nothing of that; to read an array that was given up would answer want of memory. How long it was and how its
+//! rows looked stays known, so a row or a size that looks at an array is no use of it. The theorem of this crate is the contract
+//! of [`eval`]: its answer is an outcome that the meaning allows, or that memory ran out.
 #![tactic(auto)]
 
 mod blocks;

@@ -38,7 +38,7 @@ pub fn make(
             let whole = tuple(alloc, values)?;
             push(stack, whole)
         }
-        Making::Array(row) => make_array(alloc, &row, place, atoms, table, stack),
+        Making::Array(row) => make_array(alloc, row, place, atoms, table, stack),
         Making::Index(parts) => {
             if !is_one_index(parts) || atoms.len() != 2 {
                 let values = read_data(alloc, atoms, table)?;

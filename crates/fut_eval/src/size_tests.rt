@@ -1,5 +1,5 @@
 // What sizes are worth as numbers, and whether data has the sizes that it has to have.
-ghost use Rattle.std.specs.Prelude.{◌≡◌, map};
+ghost use Rattle.std.specs.Prelude.{map};
 ghost use Rattle.fut_blocks.specs.Plain.{Size_of};
 ghost use Rattle.fut_blocks.specs.Rows.{Array_test, extent_of, row_of, test_of};
 ghost use Rattle.array_data.specs.Held.{held_all, named_shapes, shape_held, shapes};
@@ -7,11 +7,11 @@ ghost use Rattle.fut_eval.specs.Runs.{Coerces, Made_runs};
 ghost use Rattle.fut_eval.specs.Shapes.{All_pass, Field_passes, Named_pass, Passes, Rows_pass, tested_fields};
 
 use crate::names::push;
-use crate::shapes::{MOST_DEEP, extent_at, form_shown};
+use crate::shapes::{MOST_DEEP, extent_at, told_form};
 use crate::slots::Slot;
 use array_data::{Data, Form, Stop, failed};
-use form_parts::{agrees, counted, place_of};
-use fut_blocks::{FieldTest, Reading, RowShape, SizeTest};
+use form_parts::{agrees, counted, field_at};
+use fut_blocks::{Extent, FieldTest, RowShape, SizeTest};
 use fut_scalar::{FailKind, IntType, Name, Place, Scalar};
 use std::alloc::Global;
 
@@ -19,13 +19,13 @@ use std::alloc::Global;
 #[tactic(auto, using(crate::proofs::Testing::size_acts))]
 pub fn put_size(
     alloc: Global,
-    readings: &[Reading],
+    extent: &Extent,
     table: &[Slot],
     stack: &mut Vec<Data>,
 ) -> Result<(), Stop>
-    ensures { Made_runs (Size_of (extent_of readings.now)) (held_all table.now) (held_all stack.old.items) (held_all stack.new.items) result }
+    ensures { Made_runs (Size_of (extent_of extent.now)) (held_all table.now) (held_all stack.old.items) (held_all stack.new.items) result }
 {
-    let size = extent_at(alloc, readings, MOST_DEEP, table)?;
+    let size = extent_at(alloc, extent, MOST_DEEP, table)?;
     push(
         stack,
         Data::Scalar(Scalar::Int {
@@ -46,7 +46,7 @@ pub fn coerce(
 ) -> Result<(), Stop>
     ensures { Coerces (held_all table.now) place (test_of test.now) (row_of row.now) result }
 {
-    let form = form_shown(alloc, row, MOST_DEEP, table)?;
+    let form = told_form(alloc, row, MOST_DEEP, table)?;
     let passed = passes(alloc, test, &form, MOST_DEEP, table)?;
     if passed {
         Ok(())
@@ -72,9 +72,7 @@ fn passes(
     }
     match test {
         SizeTest::Any => Ok(true),
-        SizeTest::Array(readings, rows) => {
-            array_passes(alloc, readings, rows, form, room - 1, table)
-        }
+        SizeTest::Array(extent, rows) => array_passes(alloc, extent, rows, form, room - 1, table),
         SizeTest::Tuple(tests) => match form {
             Form::Tuple(forms) => all_pass(alloc, tests, forms.as_slice(), room - 1, table),
             Form::Unmet | Form::Scalar(_) | Form::Record(_, _) | Form::Array(_, _) => Ok(true),
@@ -98,19 +96,17 @@ fn passes(
 #[cycle(passing)]
 fn array_passes(
     alloc: Global,
-    readings: &[Reading],
+    extent: &Extent,
     rows: &SizeTest,
     form: &Form,
     room: u32,
     table: &[Slot],
 ) -> Result<bool, Stop>
-    ensures { Passes (held_all table.now) (Array_test (extent_of readings.now) (test_of rows.now)) (shape_held form.now) result }
+    ensures { Passes (held_all table.now) (Array_test (extent_of extent.now) (test_of rows.now)) (shape_held form.now) result }
 {
     match form {
-        Form::Array(many, row) => {
-            rows_pass(alloc, readings, rows, *many, row.get(), room, table)
-        }
-        Form::Unmet => rows_pass(alloc, readings, rows, 0, form, room, table),
+        Form::Array(many, row) => { rows_pass(alloc, extent, rows, *many, row.get(), room, table) }
+        Form::Unmet => rows_pass(alloc, extent, rows, 0, form, room, table),
         Form::Scalar(_) | Form::Tuple(_) | Form::Record(_, _) => Ok(true),
     }
 }
@@ -120,16 +116,16 @@ fn array_passes(
 #[cycle(passing)]
 fn rows_pass(
     alloc: Global,
-    readings: &[Reading],
+    extent: &Extent,
     rows: &SizeTest,
     many: u64,
     row: &Form,
     room: u32,
     table: &[Slot],
 ) -> Result<bool, Stop>
-    ensures { Rows_pass (held_all table.now) (extent_of readings.now) (test_of rows.now) many (shape_held row.now) result }
+    ensures { Rows_pass (held_all table.now) (extent_of extent.now) (test_of rows.now) many (shape_held row.now) result }
 {
-    let size = extent_at(alloc, readings, MOST_DEEP, table)?;
+    let size = extent_at(alloc, extent, MOST_DEEP, table)?;
     if !agrees(size, many) {
         return Ok(false);
     }
@@ -195,11 +191,8 @@ fn field_passes(
 ) -> Result<bool, Stop>
     ensures { Field_passes (held_all table.now) field.now.name.now (test_of field.now.test) (named_shapes names.now (map shape_held forms.now)) result }
 {
-    let Some(at) = place_of(field.name, names, forms)? else {
-        return Ok(true);
-    };
-    if at >= forms.len() {
-        return Ok(true);
+    match field_at(field.name, names, forms)? {
+        Some(form) => passes(alloc, &field.test, form, room, table),
+        None => Ok(true),
     }
-    passes(alloc, &field.test, &forms[at], room, table)
 }

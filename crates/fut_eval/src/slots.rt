@@ -1,11 +1,19 @@
 // The table of names: what each name stands for, as long as something may read it.
 ghost use Rattle.std.specs.Prelude.{◌≡◌, IfSome};
+ghost use Rattle.fut_meaning.specs.Outcomes.{Val};
+ghost use Rattle.fut_meaning.specs.Places.{size_of};
+ghost use Rattle.fut_value.specs.Data.{shape_of};
+ghost use Rattle.array_data.specs.Answers.{Tells};
+ghost use Rattle.array_data.specs.Held.{held};
 ghost use Rattle.array_data.specs.declared.data.Data.TheVariants as hold;
-ghost use Rattle.fut_eval.specs.Slots.{shown};
+ghost use Rattle.form_parts.specs.Met.{as_shape};
+ghost use Rattle.fut_eval.specs.Slots.{Knows_length, shown};
 
-use array_data::{Data, Form, Trace};
+use array_data::{Data, Form, Stop, Trace, form_of};
+use form_parts::{array_form, data_length};
 use fut_blocks::{Act, Atom, Step};
 use fut_scalar::{List, Scalar, ScalarType, Shared};
+use std::alloc::Global;
 use std::marker::Model;
 
 /// One of the branches of an `if`. What has none is in the first.
@@ -54,14 +62,14 @@ impl Moves {
     }
 }
 
-/// What the table has of a value.
+/// What the table has of a value. How an array looks like that was given up stays known, since rows and sizes may ask for it.
 #[derive(Drop)]
 pub enum Content {
     Here(Data),
-    /// Of an array of scalars that was given up.
-    Words(ScalarType, Trace<List<u64>>),
-    /// Of an array of rows that was given up.
-    Rows(u32, Shared<Form>, Trace<List<Data>>),
+    /// Of an array of scalars that was given up, with its length.
+    Words(ScalarType, u64, Trace<List<u64>>),
+    /// Of an array of rows that was given up, with what these look like and how many there were.
+    Rows(u32, Shared<Form>, u64, Trace<List<Data>>),
 }
 
 /// The place of a name in the table. Contracts see the value that the name got last, also where it was given up.
@@ -80,9 +88,11 @@ impl Model for Slot {
 
     ghost coded = { Prim.hlevel (codes, data_type.the_row.coded) };
 
-    ghost use Rattle.fut_eval.specs.Slots.{shown};
+    ghost use Rattle.fut_eval.specs.Slots.{Knows_length, shown};
 
     ghost view = { λ slot. shown slot.content };
+
+    ghost invariant = { λ slot. Knows_length slot.content };
 }
 
 impl Slot {
@@ -101,8 +111,38 @@ impl Slot {
     {
         match &self.content {
             Content::Here(value) => Some(value),
-            Content::Words(_, _) => None,
-            Content::Rows(_, _, _) => None,
+            Content::Words(_, _, _) => None,
+            Content::Rows(_, _, _, _) => None,
+        }
+    }
+
+    /// The form of the value, also where that was given up.
+    #[tactic(auto, using(crate::proofs::Slotting::slot_forms))]
+    pub fn form(&self, alloc: Global) -> Result<Form, Stop>
+        ensures { Tells (Val (shape_of (held self.now))) (as_shape result) }
+    {
+        match &self.content {
+            Content::Here(value) => {
+                let form = form_of(alloc, value)?;
+                Ok(form)
+            }
+            Content::Words(ty, many, _) => array_form(alloc, *many, Form::Scalar(*ty)),
+            Content::Rows(_, row, many, _) => {
+                let row = row.share()?;
+                Ok(Form::Array(*many, row))
+            }
+        }
+    }
+
+    /// How many rows the value has, also where that was given up: 0 where it is no array.
+    #[tactic(auto, using(crate::proofs::Slotting::slot_lengths))]
+    pub fn length(&self) -> u64
+        ensures { result ≡ size_of (shape_of (held self.now)) }
+    {
+        match &self.content {
+            Content::Here(value) => data_length(value),
+            Content::Words(_, many, _) => *many,
+            Content::Rows(_, _, many, _) => *many,
         }
     }
 
@@ -149,16 +189,21 @@ impl Slot {
 }
 
 /// What is left of an array that is given up. Of other values nothing is gained, so they stay.
+#[tactic(auto, using(crate::proofs::Slotting::rests))]
 fn rest_of(content: &Content) -> Option<Content>
-    ensures { IfSome result (λ rest. shown rest ≡ shown content.now) }
+    ensures same { IfSome result (λ rest. shown rest ≡ shown content.now) }
+    ensures long { IfSome result Knows_length }
 {
     match content {
         Content::Here(Data::Words(ty, words)) => match words.trace() {
-            Ok(trace) => Some(Content::Words(*ty, trace)),
+            Ok(trace) => Some(Content::Words(*ty, words.get().len() as u64, trace)),
             Err(_) => None,
         },
         Content::Here(Data::Rows(depth, form, rows)) => match (form.share(), rows.trace()) {
-            (Ok(form), Ok(trace)) => Some(Content::Rows(*depth, form, trace)),
+            (Ok(form), Ok(trace)) => {
+                let many = rows.get().len() as u64;
+                Some(Content::Rows(*depth, form, many, trace))
+            }
             _ => None,
         },
         _ => None,

@@ -13,7 +13,8 @@ use Rattle.sized_types.specs.Sizes.{Size, Hole, Open, Level, Built, Fun}
 use Rattle.sized_types.specs.Standing.{is_known, gives_chosen}
 use Rattle.fut_meaning.specs.Values.{Values, Fields}
 use Rattle.fut_meaning.specs.Found.{Told, Sizing, Found, with_data, with_results, with_worth, if_told, chosen_shape, number, shape_found, told_shape, has_sizes}
-use Rattle.fut_meaning.specs.Telling.{Argument, Telling, Of_shape, Of_rows, by_function, primitive_tells, worth_of, value_shape, value_shapes, field_shapes, is_function, data_told, to_come, nodes_from, closure_tells, found, tells, function_tells, row_of, rows_for}
+use Rattle.fut_meaning.specs.Places.{row_of}
+use Rattle.fut_meaning.specs.Telling.{Argument, Telling, Of_shape, Of_rows, by_function, primitive_tells, worth_of, value_shape, value_shapes, field_shapes, is_function, data_told, to_come, nodes_from, closure_tells, found, tells, function_tells, rows_for}
 use Rattle.fut_meaning.specs.Meaning.{Lang, row_found, sizes_agree, row_told, fits_type, Of_literal, Of_function}
 use Rattle.fut_meaning.specs.Flats.{FlatValue, FlatEnv}
 use Rattle.fut_meaning.specs.Sources.{Outside, SourceValue, SourceValues, SourceFields, SourceEnv}
@@ -99,8 +100,8 @@ module _ (Z : Sizing) where
     found_same (h_bind a b s h) = found_same h
     found_same (h_size a b s h) = found_same h
     found_same (h_entered {q = q} {q'} {env = env} {env'} {v} {w} e s h) =
-        both (λ (x : ℕ) W. with_worth Z.home x (worth_of v) (with_data Z.fields (Z.size_at x) (value_shape v) W)) e (both (λ (x : ℕ) W. with_results Z.fields (Z.size_at x) (tells Z v) W) e (found_same h) ∙ results_same (Z.size_at q') (tells Z v) (tells Z w) (found Z env') (tells_same s))
-        ∙ both (λ n h. with_worth Z.home q' n (with_data Z.fields (Z.size_at q') h (with_results Z.fields (Z.size_at q') (tells Z w) (found Z env')))) (worth_same s) (shape_same s)
+        both (λ (x : ℕ) W. with_worth Z.home x (Z.size_at x) (worth_of v) (with_data Z.fields (Z.size_at x) (value_shape v) W)) e (both (λ (x : ℕ) W. with_results Z.fields (Z.size_at x) (tells Z v) W) e (found_same h) ∙ results_same (Z.size_at q') (tells Z v) (tells Z w) (found Z env') (tells_same s))
+        ∙ both (λ n h. with_worth Z.home q' (Z.size_at q') n (with_data Z.fields (Z.size_at q') h (with_results Z.fields (Z.size_at q') (tells Z w) (found Z env')))) (worth_same s) (shape_same s)
 
     pub tells_same : {zs : Option Sizing} {v : SourceValue} {w : FlatValue} → Same zs v w → (hs : List Shape) → tells Z v hs ≡ tells Z w hs
     tells_same s_scalar hs = refl

@@ -21,7 +21,8 @@ use Rattle.fut_meaning.specs.Datums.{datum_of}
 use Rattle.fut_meaning.specs.Arrays.{made, array}
 use Rattle.fut_meaning.specs.Jobs.{job}
 use Rattle.fut_meaning.specs.Operations.{report, operate, coerced}
-use Rattle.fut_meaning.specs.Found.{Told, unsized, sought, told_shape, result_shape, with_results, has_sizes}
+use Rattle.fut_meaning.specs.Places.{place}
+use Rattle.fut_meaning.specs.Found.{Told, unsized, told_shape, result_shape, with_results, has_sizes}
 use Rattle.fut_meaning.specs.Telling.{size_value, primitive_tells, value_shape, data_told, closure_tells, found, tells, function_tells}
 use Rattle.fut_meaning.specs.Meaning.{plain, row_told, fits_type, Ever}
 use Rattle.fut_ast.specs.Sorts.{Text}
@@ -61,7 +62,7 @@ Gives sizes env e o = Ever ((flat_names (record { integer_at = λ n. I64; sizes 
 -- ---- let g = map in g (\i -> iota m) (iota 0), where m is 2
 
 abbrev of_map : ℕ → Size
-of_map n = cond (nat_eq n 7) i64 (cond (nat_eq n 8) (Level (At (Name 0)) i64) (Hole (Inferred 0)))
+of_map n = cond (nat_eq n 7) i64 (cond (nat_eq n 8) (Level (At (Name 0)) i64) (cond (nat_eq n 100) i64 (Hole (Inferred 0))))
 
 abbrev m_is_2 : FlatEnv
 m_is_2 = bind (record { 0 = 0 }) (long 2) (entered 100 (long 2) (base tt))
@@ -71,7 +72,7 @@ renamed_map = Let (record { sizes = []; parameters = []; is_function = false; pa
 
 -- no row, each of 2 integers: the function was never called
 map_under_a_name : Gives of_map m_is_2 renamed_map (Val (Array_value (Array_shape 2 row) no_datum))
-unfolding bound flat_look flat_names operate coerced plain row_told job made array shape_of words array_words weight heaviest same_sizes sought told_shape result_shape with_results primitive_tells value_shape data_told closure_tells found tells function_tells datum_of
+unfolding bound flat_look flat_names operate coerced plain row_told job made array shape_of words array_words weight heaviest same_sizes place told_shape result_shape with_results primitive_tells value_shape data_told closure_tells found tells function_tells datum_of
 map_under_a_name =
     close _ _ _ _ _ _ (goes_on {f = 0} {g = 0} (close _ _ _ _ _ _ exact) (goes_on {f = 0} {g = 0} exact
     (close _ _ _ _ _ _ (goes_on {f = 0} {g = 0}
@@ -92,7 +93,7 @@ abbrev no_rows : FlatTerm
 no_rows = Apply (Lambda (pattern_and (name 1) no_pattern) (Strict Array_of at no_term)) (Lambda (pattern_and (name 2) no_pattern) (Apply (prelude prim.Iota) (int 3)))
 
 size_of_a_function : Gives of_rows (base tt) no_rows (Val (Array_value (Array_shape 3 row) no_datum))
-unfolding bound flat_look flat_names operate coerced plain row_told made array shape_of words array_words weight heaviest same_sizes sought told_shape result_shape with_results value_shape closure_tells found tells is_known gives_chosen is_dim is_free
+unfolding bound flat_look flat_names operate coerced plain row_told made array shape_of words array_words weight heaviest same_sizes place told_shape result_shape with_results value_shape closure_tells found tells is_known gives_chosen is_dim is_free
 size_of_a_function =
     close _ _ _ _ _ _ (goes_on {f = 0} {g = 0} (close _ _ _ _ _ _ exact) (goes_on {f = 0} {g = 0} (close _ _ _ _ _ _ exact)
     (close _ _ _ _ _ _ (goes_on {f = 0} {g = 0} exact (close _ _ _ _ _ _ (goes_on {f = 0} {g = 0} exact (goes_on {f = 0} {g = 0} exact (goes_on {f = 0} {g = 0} exact exact))))))))
@@ -136,7 +137,7 @@ abbrev of_parameter : ℕ → Size
 of_parameter n = cond (nat_eq n 2) (Level (At (Name 0)) i64) (Hole (Inferred 0))
 
 size_of_three : Sized_gives of_parameter (base tt) (Apply size_of_rows (Strict Array_of at (term_and (int 7) (term_and (int 8) (term_and (int 9) no_term))))) (Val (long 3)) 3
-unfolding bound flat_look flat_names operate coerced plain row_told made array shape_of words array_words weight heaviest same_sizes sought told_shape with_results value_shape found tells is_dim is_free size_value datum_of
+unfolding bound flat_look flat_names operate coerced plain row_told made array shape_of words array_words weight heaviest same_sizes place told_shape with_results value_shape found tells is_dim is_free size_value datum_of
 size_of_three =
     close _ _ _ _ _ _ (goes_on {f = 0} {g = 3} (close _ _ _ _ _ _ exact) (goes_on {f = 3} {g = 0}
     (close _ _ _ _ _ _ (goes_on {f = 0} {g = 3}
@@ -152,7 +153,7 @@ abbrev no_row_of_three : FlatEnv
 no_row_of_three = bind (record { 0 = 4 }) (Array_value (Array_shape 3 row) no_datum) (base tt)
 
 size_of_missing_rows : Sized_gives of_rows_of no_row_of_three (Apply size_of_rows (var 4)) (Val (long 3)) 0
-unfolding bound flat_look flat_names plain shape_of sought told_shape with_results value_shape found tells is_dim is_free size_value
+unfolding bound flat_look flat_names plain shape_of place told_shape with_results value_shape found tells is_dim is_free size_value
 size_of_missing_rows =
     close _ _ _ _ _ _ (goes_on {f = 0} {g = 0} (close _ _ _ _ _ _ exact) (goes_on {f = 0} {g = 0} (close _ _ _ _ _ _ exact)
     (close _ _ _ _ _ _ (goes_on {f = 0} {g = 0} exact (close _ _ _ _ _ _ exact)))))
@@ -173,7 +174,7 @@ abbrev two_outside : SourceEnv
 two_outside = bind (label letter_x at) (Array_value (Array_shape 3 row) no_datum) (bind (label letter_n at) (Scalar_value (scalar.Int I64 2)) (base (λ p. Names_nothing)))
 
 size_in_a_source : Source_gives of_rows_of two_outside (Apply (Lambda (pattern_and (Bound_pattern (label letter_x at)) no_pattern) (Use (spelled (letter_n ∷ []) at) at 0)) (Use (spelled (letter_x ∷ []) at) at 0)) (Val (Scalar_value (scalar.Int I64 3)))
-unfolding bound source_look source_names plain shape_of sought told_shape with_results value_shape found tells is_dim is_free size_value
+unfolding bound source_look source_names plain shape_of place told_shape with_results value_shape found tells is_dim is_free size_value
 size_in_a_source =
     close _ _ _ _ _ _ (goes_on {f = 0} {g = 0} (close _ _ _ _ _ _ exact) (goes_on {f = 0} {g = 0} (close _ _ _ _ _ _ exact)
     (close _ _ _ _ _ _ (goes_on {f = 0} {g = 0} exact (close _ _ _ _ _ _ exact)))))

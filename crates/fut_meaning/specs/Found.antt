@@ -1,15 +1,16 @@
 -- What a sizing and the values that were entered tell of sizes (Futhark Language Reference, "Size Types"): the shape of data of
--- a sized type, and the sizes and type variables that a shape fixes.
+-- a sized type, and what sizes and type variables are worth where data of a sized type has a shape.
 use Rattle.std.specs.Prelude.{ℕ, zero, suc, Bool, true, false, ◌&&◌, cond, nat_eq, List, [], ◌∷◌, Option, Some, None, ℤ, pos, negsuc}
-use Rattle.std.specs.Str.{bytes_eq}
 use Rattle.fut_scalar.specs.declared.scalar.IntType.{IntType}
+use Rattle.fut_scalar.specs.declared.scalar.ScalarType.TheVariants as sort
 use Rattle.fut_ast.specs.Sorts.{Text}
 use Rattle.fut_types.specs.declared.Head.{Head}
 use Rattle.fut_types.specs.declared.Head.TheVariants as head
 use Rattle.fut_value.specs.Data.{Shape, Scalar_shape, Tuple_shape, Record_shape, Array_shape, Unmet_shape, Shapes, no_shape, shape_and, Named_shapes, no_named_shape, named_shape_and}
-use Rattle.sized_types.specs.Sizes.{Free, Const, Name, Dim, At, Bound, Variable, is_variable, Size, Hole, Open, Level, Built, Fun, Sizes, no_size, size_and, is_dim}
+use Rattle.sized_types.specs.Sizes.{Free, Const, Name, Dim, At, Bound, Variable, Size, Hole, Open, Level, Built, Fun, Sizes, no_size, size_and}
 use Rattle.sized_types.specs.Standing.{is_known, gives_chosen}
 use Rattle.fut_meaning.specs.Accessors.{count_of}
+use Rattle.fut_meaning.specs.Places.{size_place, type_place, on_place, size_of, at_path, field_shape, or_unmet}
 use Rattle.fut_meaning.specs.Values.{is_before}
 
 -- what a sizing tells of a program
@@ -34,63 +35,6 @@ pub record Told : Type 0 where
 -- types alone: nothing is told of sizes
 abbrev pub unsized : (ℕ → IntType) → Told
 unsized integer_at = record { integer_at = integer_at; sizes = None }
-
-abbrev pub or_else : {A : Type 0} → Option A → Option A → Option A
-or_else (Some a) o = Some a
-or_else None o = o
-
-abbrev pub on_some : {A B : Type 0} → Option A → (A → Option B) → Option B
-on_some (Some a) k = k a
-on_some None k = None
-
--- ---- what a shape says at the levels and at the type variables of a sized type
-
-abbrev pub field_shape : Text → Named_shapes → Option Shape
-field_shape f no_named_shape = None
-field_shape f (named_shape_and g h hs) = cond (bytes_eq g f) (Some h) (field_shape f hs)
-
-abbrev pub in_array : {A : Type 0} → (ℕ → Option A) → (Shape → Option A) → Shape → Option A
-in_array here deeper (Array_shape n h) = or_else (here n) (deeper h)
-in_array here deeper h = None
-
--- by what a type is made of
-abbrev pub in_head : {A : Type 0} → Head → (Shapes → Option A) → (ℕ → Named_shapes → Option A) → Shape → Option A
-in_head head.Tuple parts named (Tuple_shape hs) = parts hs
-in_head (head.Record n) parts named (Record_shape hs) = named n hs
-in_head h parts named k = None
-
-module _ (fields : ℕ → List Text) {A : Type 0} (at_level : Dim → ℕ → Option A) (at_hole : Variable → Shape → Option A) where
-  -- the first answer that is given
-  unfoldable mutual
-    pub sought : Size → Shape → Option A
-    sought (Hole v) h = at_hole v h
-    sought (Open n v u) h = None
-    sought (Level d t) h = in_array (at_level d) (sought t) h
-    sought (Built k ts) h = in_head k (all_sought ts) (λ n. named_sought (fields n) ts) h
-    sought (Fun k p r) h = None
-
-    pub all_sought : Sizes → Shapes → Option A
-    all_sought no_size hs = None
-    all_sought (size_and t ts) no_shape = None
-    all_sought (size_and t ts) (shape_and h hs) = or_else (sought t h) (all_sought ts hs)
-
-    pub named_sought : List Text → Sizes → Named_shapes → Option A
-    named_sought fs no_size hs = None
-    named_sought [] (size_and t ts) hs = None
-    named_sought (f ∷ fs) (size_and t ts) hs = or_else (on_some (field_shape f hs) (sought t)) (named_sought fs ts hs)
-
-abbrev pub if_dim : Dim → Dim → ℕ → Option ℕ
-if_dim x d n = cond (is_dim d x) (Some n) None
-
-abbrev pub if_variable : Variable → Variable → Shape → Option Shape
-if_variable x v h = cond (is_variable v x) (Some h) None
-
--- a size, or what a type variable stands for, where it stands in the sized type of data of a shape
-abbrev pub size_in : (ℕ → List Text) → Dim → Size → Shape → Option ℕ
-size_in fields x = sought fields (if_dim x) (λ v h. None)
-
-abbrev pub type_in : (ℕ → List Text) → Variable → Size → Shape → Option Shape
-type_in fields x = sought fields (λ d n. None) (if_variable x)
 
 -- ---- the shape of data of a sized type, where sizes are these numbers and type variables stand for these shapes
 
@@ -123,22 +67,14 @@ unfoldable mutual
   told_shapes fields number type no_size = no_shape
   told_shapes fields number type (size_and t ts) = shape_and (told_shape fields number type t) (told_shapes fields number type ts)
 
-abbrev pub or_none : Option ℕ → ℕ
-or_none (Some n) = n
-or_none None = 0
-
-abbrev pub or_unmet : Option Shape → Shape
-or_unmet (Some h) = h
-or_unmet None = Unmet_shape
-
 -- in the result of a function type, whose parameter's data has a shape: the sizes that the caller chooses stand in that
 abbrev pub pushed : (ℕ → List Text) → Size → Shape → (Dim → ℕ) → Dim → ℕ
 pushed fields p h number (At d) = number (At d)
-pushed fields p h number (Bound zero i) = or_none (size_in fields (Bound 0 i) p h)
+pushed fields p h number (Bound zero i) = on_place (size_place fields (Bound 0 i) p) (λ q. size_of (at_path q h)) 0
 pushed fields p h number (Bound (suc j) i) = number (Bound j i)
 
 abbrev pub typed_by : (ℕ → List Text) → Size → Shape → (Variable → Shape) → Variable → Shape
-typed_by fields p h type v = or_unmet (or_else (type_in fields v p h) (Some (type v)))
+typed_by fields p h type v = on_place (type_place fields v p) (λ q. at_path q h) (type v)
 
 -- the shape of what a function of a sized type gives for arguments of these shapes
 unfoldable pub result_shape : (ℕ → List Text) → (Dim → ℕ) → (Variable → Shape) → Size → List Shape → Shape
@@ -154,10 +90,6 @@ pub record Found : Type 0 where
 
 abbrev pub nothing_found : Found
 nothing_found = record { size = λ d. None; type = λ v. None }
-
-abbrev pub as_integer : Option ℕ → Option ℤ
-as_integer (Some n) = Some (pos n)
-as_integer None = None
 
 -- a constant is worth itself
 abbrev pub worth : Found → Dim → Option ℤ
@@ -176,9 +108,9 @@ number W d = count (worth W d)
 abbrev pub shape_found : Found → Variable → Shape
 shape_found W v = or_unmet (W.type v)
 
--- data of a sized type has a shape
+-- data of a sized type has a shape: of what has a place in that type, what stands there
 abbrev pub with_data : (ℕ → List Text) → Size → Shape → Found → Found
-with_data fields t h W = record { size = λ d. or_else (as_integer (size_in fields (At d) t h)) (W.size d); type = λ v. or_else (type_in fields v t h) (W.type v) }
+with_data fields t h W = record { size = λ d. on_place (size_place fields (At d) t) (λ p. Some (pos (size_of (at_path p h)))) (W.size d); type = λ v. on_place (type_place fields v t) (λ p. Some (at_path p h)) (W.type v) }
 
 -- the shape of a function's parameter where each size that the caller chooses is 0
 abbrev pub chosen_none : Dim → ℕ
@@ -197,13 +129,17 @@ unfoldable pub with_results : (ℕ → List Text) → Size → (List Shape → S
 with_results fields (Fun k p r) tell W = if_told (is_known p && gives_chosen k r) (with_data fields r (tell (chosen_shape fields p ∷ [])) W) W
 with_results fields t tell W = W
 
-abbrev pub named_worth : (ℕ → ℕ) → ℕ → Option ℤ → Free → Option ℤ
-named_worth home q n (Name b) = cond (nat_eq (home b) q) n None
-named_worth home q n d = None
+abbrev pub is_number : Size → Bool
+is_number (Built (head.Scalar (sort.Int t)) ts) = true
+is_number t = false
 
--- the name that the pattern at a node binds is worth this
-abbrev pub with_worth : (ℕ → ℕ) → ℕ → Option ℤ → Found → Found
-with_worth home q n W = record { size = λ d. or_else (named_worth home q n d) (W.size d); type = W.type }
+abbrev pub named_worth : (ℕ → ℕ) → ℕ → Size → Option ℤ → Free → Option ℤ → Option ℤ
+named_worth home q t n (Name b) o = cond (nat_eq (home b) q && is_number t) n o
+named_worth home q t n d o = o
+
+-- the name that a pattern of a sized type binds at a node is worth this, where it is a number
+abbrev pub with_worth : (ℕ → ℕ) → ℕ → Size → Option ℤ → Found → Found
+with_worth home q t n W = record { size = λ d. named_worth home q t n d (W.size d); type = W.type }
 
 -- ---- whether data has the sizes of a type; a size that is not found agrees with each
 

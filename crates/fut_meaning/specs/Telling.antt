@@ -16,6 +16,7 @@ use Rattle.fut_value.specs.Data.{Shape, Scalar_shape, Tuple_shape, Record_shape,
 use Rattle.fut_meaning.specs.Values.{Value, Scalar_value, Tuple_value, Record_value, Array_value, Closure, Primitive_value, Values, no_value, value_and, Fields, no_field, field_and, Env, base, bind, entered}
 use Rattle.sized_types.specs.Sizes.{At, Name}
 use Rattle.fut_meaning.specs.Operators.{integer}
+use Rattle.fut_meaning.specs.Places.{row_of, size_of}
 use Rattle.fut_meaning.specs.Found.{Sizing, Found, nothing_found, result_shape, number, shape_found, count, with_data, with_results, with_worth}
 
 -- ---- primitives
@@ -32,14 +33,6 @@ pub data Telling : Type 0 where
 abbrev pub by_function : (List Shape → Shape) → Telling → Shape
 by_function f (Of_shape h) = h
 by_function f (Of_rows n hs) = Array_shape n (f hs)
-
-abbrev pub row_of : Shape → Shape
-row_of (Array_shape n h) = h
-row_of h = Unmet_shape
-
-abbrev pub size_of : Shape → ℕ
-size_of (Array_shape n h) = n
-size_of h = 0
 
 abbrev pub argument_row : Argument → Shape
 argument_row a = row_of a.0
@@ -209,7 +202,7 @@ module _ (Z : Sizing) where
       pub found : Env P B S → Found
       found (base s) = nothing_found
       found (bind b v env) = found env
-      found (entered q v env) = with_worth Z.home q (worth_of v) (with_data Z.fields (Z.size_at q) (value_shape v) (with_results Z.fields (Z.size_at q) (tells v) (found env)))
+      found (entered q v env) = with_worth Z.home q (Z.size_at q) (worth_of v) (with_data Z.fields (Z.size_at q) (value_shape v) (with_results Z.fields (Z.size_at q) (tells v) (found env)))
 
       -- the shape of what a function gives for arguments of these shapes
       pub tells : Value P B S → List Shape → Shape

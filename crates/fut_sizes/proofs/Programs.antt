@@ -611,3 +611,86 @@ composed_irregular = refl
 no_composition : size_in (but 15 list_ty (but 16 list_ty (but 18 list_ty all_i64))) (let_in 50 (call2 (the prim.Map2) first (var 2)) (let_in 51 (the prim.Reverse) (function 52 (call (var 51) (call (var 50) (Use (ref.Bound (b 52)) there 0)))))) ≡ Err (Mismatch 20 (name 0) (At (Own 15 0)))
 unfolding agree all_agree kept all_kept leaving type_levels all_type_levels of_type of_types all_settled parts_settled data_met functions_met all_matched applied collected all_collected sizes_in function_size chosen_in quantified closed filled all_filled read all_read opened_inside compared all_compared meet all_meet elements_agree slice_size indexed updated operation sized_type prim_size sizing type_of type_in instance instances used taken all_taken fields_taken bound_by erased all_erased is_free is_dim levels all_levels levels_within all_levels_within replaced all_replaced has some_has takes some_takes is_open some_open matched lacking all_lacking differing all_differing turns_from pattern_noted patterns_noted fields_noted sized all_sized turns_sized condition_sized right_sized inner_sized part_of changed_part has_sizes all_have_sizes fields_have_sizes with_sizes all_with_sizes fields_with_sizes ascribed coerced coercion parameter_size declared
 no_composition = refl
+
+-- ---- sizes that an argument leaves open
+
+-- 5 takes a function of arrays and a number and gives such an array, 6 takes arrays of any size; 7 takes two functions of arrays
+abbrev to_any : Size
+to_any = Fun 1 (array (Bound 0 0)) i64
+
+abbrev opening : Scope
+opening = with_name 7 (Fun 1 (Fun 0 (array (Bound 1 0)) i64) (Fun 1 (Fun 0 (array (Bound 1 0)) i64) (Level (Bound 1 0) (array (Bound 0 0))))) (with_name 6 to_any (with_name 5 (Fun 1 (Fun 0 (array (Bound 1 0)) i64) (Fun 0 i64 (array (Bound 1 0)))) scope))
+
+abbrev node_among : Scope → Sub → FlatTerm → ℕ → Answer Size
+node_among among types e n = then_do (sized N types e [] 0 among no_state) (λ d. then_do (finished N types 0 d.result d.state) (λ u. Ok (u.state.nodes n)))
+
+-- f h 3: what nothing says is unknown where f is applied to h
+open_size : size_among opening all_i64 (call2 (var 5) (var 6) (literal 3)) ≡ Ok (array (unknown 1 0))
+unfolding agree all_agree kept all_kept leaving type_levels all_type_levels of_type of_types all_settled parts_settled data_met functions_met all_matched applied collected all_collected sizes_in function_size chosen_in quantified closed filled all_filled read all_read opened_inside compared all_compared meet all_meet elements_agree slice_size indexed updated operation sized_type prim_size sizing type_of type_in instance instances used taken all_taken fields_taken bound_by erased all_erased is_free is_dim levels all_levels levels_within all_levels_within replaced all_replaced has some_has takes some_takes is_open some_open matched lacking all_lacking differing all_differing turns_from pattern_noted patterns_noted fields_noted sized all_sized turns_sized condition_sized right_sized inner_sized part_of changed_part has_sizes all_have_sizes fields_have_sizes with_sizes all_with_sizes fields_with_sizes ascribed coerced coercion parameter_size declared
+open_size = refl
+
+-- so the function that is applied to 3 knows nothing of that application
+open_before : node_among opening all_i64 (call2 (var 5) (var 6) (literal 3)) 1 ≡ Ok (Fun 0 i64 (array (unknown 1 0)))
+unfolding agree all_agree kept all_kept leaving type_levels all_type_levels of_type of_types all_settled parts_settled data_met functions_met all_matched applied collected all_collected sizes_in function_size chosen_in quantified closed filled all_filled read all_read opened_inside compared all_compared meet all_meet elements_agree slice_size indexed updated operation sized_type prim_size sizing type_of type_in instance instances used taken all_taken fields_taken bound_by erased all_erased is_free is_dim levels all_levels levels_within all_levels_within replaced all_replaced has some_has takes some_takes is_open some_open matched lacking all_lacking differing all_differing turns_from pattern_noted patterns_noted fields_noted sized all_sized turns_sized condition_sized right_sized inner_sized part_of changed_part has_sizes all_have_sizes fields_have_sizes with_sizes all_with_sizes fields_with_sizes ascribed coerced coercion parameter_size declared
+open_before = refl
+
+-- g h h: one is unknown where g is applied to the first h, the other where that is applied to the second
+open_sizes : size_among opening all_i64 (call2 (var 7) (var 6) (var 6)) ≡ Ok (Level (unknown 1 0) (array (unknown 0 5)))
+unfolding agree all_agree kept all_kept leaving type_levels all_type_levels of_type of_types all_settled parts_settled data_met functions_met all_matched applied collected all_collected sizes_in function_size chosen_in quantified closed filled all_filled read all_read opened_inside compared all_compared meet all_meet elements_agree slice_size indexed updated operation sized_type prim_size sizing type_of type_in instance instances used taken all_taken fields_taken bound_by erased all_erased is_free is_dim levels all_levels levels_within all_levels_within replaced all_replaced has some_has takes some_takes is_open some_open matched lacking all_lacking differing all_differing turns_from pattern_noted patterns_noted fields_noted sized all_sized turns_sized condition_sized right_sized inner_sized part_of changed_part has_sizes all_have_sizes fields_have_sizes with_sizes all_with_sizes fields_with_sizes ascribed coerced coercion parameter_size declared
+open_sizes = refl
+
+-- f h xs, where f 'a (g: a -> i64) (x: i64): a: the array that h takes is what a is
+abbrev open_variable : Scope
+open_variable = with_name 6 to_any (with_known 5 (record { size = Fun 0 (Fun 0 (Hole (Inferred 0)) i64) (Fun 0 i64 (Hole (Inferred 0))); is_general = true }) scope)
+
+abbrev open_types : Sub
+open_types = but 2 (fun_ty (list_to i64_ty) (fun_ty i64_ty list_ty)) all_i64
+
+open_taken : node_among open_variable open_types (call2 (var 5) (var 6) (literal 3)) 1 ≡ Ok (Fun 0 i64 (array (unknown 1 3)))
+unfolding agree all_agree kept all_kept leaving type_levels all_type_levels of_type of_types all_settled parts_settled data_met functions_met all_matched applied collected all_collected sizes_in function_size chosen_in quantified closed filled all_filled read all_read opened_inside compared all_compared meet all_meet elements_agree slice_size indexed updated operation sized_type prim_size sizing type_of type_in instance instances used taken all_taken fields_taken bound_by erased all_erased is_free is_dim levels all_levels levels_within all_levels_within replaced all_replaced has some_has takes some_takes is_open some_open matched lacking all_lacking differing all_differing turns_from pattern_noted patterns_noted fields_noted sized all_sized turns_sized condition_sized right_sized inner_sized part_of changed_part has_sizes all_have_sizes fields_have_sizes with_sizes all_with_sizes fields_with_sizes ascribed coerced coercion parameter_size declared
+open_taken = refl
+
+open_given : size_among open_variable open_types (call2 (var 5) (var 6) (literal 3)) ≡ Ok (array (unknown 1 3))
+unfolding agree all_agree kept all_kept leaving type_levels all_type_levels of_type of_types all_settled parts_settled data_met functions_met all_matched applied collected all_collected sizes_in function_size chosen_in quantified closed filled all_filled read all_read opened_inside compared all_compared meet all_meet elements_agree slice_size indexed updated operation sized_type prim_size sizing type_of type_in instance instances used taken all_taken fields_taken bound_by erased all_erased is_free is_dim levels all_levels levels_within all_levels_within replaced all_replaced has some_has takes some_takes is_open some_open matched lacking all_lacking differing all_differing turns_from pattern_noted patterns_noted fields_noted sized all_sized turns_sized condition_sized right_sized inner_sized part_of changed_part has_sizes all_have_sizes fields_have_sizes with_sizes all_with_sizes fields_with_sizes ascribed coerced coercion parameter_size declared
+open_given = refl
+
+-- f 1 2, where f 'a (x: i64) (y: i64): a, and a is an array: it is unknown where f is used
+abbrev open_use : Scope
+open_use = with_known 5 (record { size = Fun 0 i64 (Fun 0 i64 (Hole (Inferred 0))); is_general = true }) scope
+
+nothing_taken : node_among open_use (but 2 (fun_ty i64_ty (fun_ty i64_ty list_ty)) all_i64) (call2 (var 5) (literal 1) (literal 2)) 1 ≡ Ok (Fun 0 i64 (array (unknown 2 2)))
+unfolding agree all_agree kept all_kept leaving type_levels all_type_levels of_type of_types all_settled parts_settled data_met functions_met all_matched applied collected all_collected sizes_in function_size chosen_in quantified closed filled all_filled read all_read opened_inside compared all_compared meet all_meet elements_agree slice_size indexed updated operation sized_type prim_size sizing type_of type_in instance instances used taken all_taken fields_taken bound_by erased all_erased is_free is_dim levels all_levels levels_within all_levels_within replaced all_replaced has some_has takes some_takes is_open some_open matched lacking all_lacking differing all_differing turns_from pattern_noted patterns_noted fields_noted sized all_sized turns_sized condition_sized right_sized inner_sized part_of changed_part has_sizes all_have_sizes fields_have_sizes with_sizes all_with_sizes fields_with_sizes ascribed coerced coercion parameter_size declared
+nothing_taken = refl
+
+-- ---- names of parts
+
+abbrev pair : ℕ → ℕ → FlatPattern
+pair x y = Tuple_pattern (pattern_and (named x) (pattern_and (named y) no_pattern))
+
+abbrev two_i64 : Ty
+two_i64 = Made head.Tuple (more i64_ty (more i64_ty none))
+
+-- \(a, b) (xs: [a]i64) -> xs: callers cannot name a part
+part_named : size_in (but 1 two_i64 (but 4 list_ty all_i64)) (Lambda (pattern_and (pair 8 9) (pattern_and (typed 10 8) no_pattern)) (var 10)) ≡ Err (Escapes 0)
+unfolding agree all_agree kept all_kept leaving type_levels all_type_levels of_type of_types all_settled parts_settled data_met functions_met all_matched applied collected all_collected sizes_in function_size chosen_in quantified closed filled all_filled read all_read opened_inside compared all_compared meet all_meet elements_agree slice_size indexed updated operation sized_type prim_size sizing type_of type_in instance instances used taken all_taken fields_taken bound_by erased all_erased is_free is_dim levels all_levels levels_within all_levels_within replaced all_replaced has some_has takes some_takes is_open some_open matched lacking all_lacking differing all_differing turns_from pattern_noted patterns_noted fields_noted sized all_sized turns_sized condition_sized right_sized inner_sized part_of changed_part has_sizes all_have_sizes fields_have_sizes with_sizes all_with_sizes fields_with_sizes ascribed coerced coercion parameter_size declared
+part_named = refl
+
+-- \(a, b) (xs: [a]i64) -> 1: also where the result does not
+part_taken : size_in (but 1 two_i64 (but 4 list_ty all_i64)) (Lambda (pattern_and (pair 8 9) (pattern_and (typed 10 8) no_pattern)) (literal 1)) ≡ Err (Escapes 0)
+unfolding agree all_agree kept all_kept leaving type_levels all_type_levels of_type of_types all_settled parts_settled data_met functions_met all_matched applied collected all_collected sizes_in function_size chosen_in quantified closed filled all_filled read all_read opened_inside compared all_compared meet all_meet elements_agree slice_size indexed updated operation sized_type prim_size sizing type_of type_in instance instances used taken all_taken fields_taken bound_by erased all_erased is_free is_dim levels all_levels levels_within all_levels_within replaced all_replaced has some_has takes some_takes is_open some_open matched lacking all_lacking differing all_differing turns_from pattern_noted patterns_noted fields_noted sized all_sized turns_sized condition_sized right_sized inner_sized part_of changed_part has_sizes all_have_sizes fields_have_sizes with_sizes all_with_sizes fields_with_sizes ascribed coerced coercion parameter_size declared
+part_taken = refl
+
+-- \(a, b) (xs: [n]i64) -> xs
+part_unnamed : size_in (but 1 two_i64 (but 4 list_ty all_i64)) (Lambda (pattern_and (pair 8 9) (pattern_and (typed 10 0) no_pattern)) (var 10)) ≡ Ok (Fun 0 (pair_size i64 i64) (Fun 0 (array (name 0)) (array (name 0))))
+unfolding agree all_agree kept all_kept leaving type_levels all_type_levels of_type of_types all_settled parts_settled data_met functions_met all_matched applied collected all_collected sizes_in function_size chosen_in quantified closed filled all_filled read all_read opened_inside compared all_compared meet all_meet elements_agree slice_size indexed updated operation sized_type prim_size sizing type_of type_in instance instances used taken all_taken fields_taken bound_by erased all_erased is_free is_dim levels all_levels levels_within all_levels_within replaced all_replaced has some_has takes some_takes is_open some_open matched lacking all_lacking differing all_differing turns_from pattern_noted patterns_noted fields_noted sized all_sized turns_sized condition_sized right_sized inner_sized part_of changed_part has_sizes all_have_sizes fields_have_sizes with_sizes all_with_sizes fields_with_sizes ascribed coerced coercion parameter_size declared
+part_unnamed = refl
+
+-- \(a, b) -> iota a: the result's size is unknown
+part_leaves : size_in (but 1 two_i64 all_i64) (Lambda (pattern_and (pair 8 9) no_pattern) (iota (var 8))) ≡ Ok (Fun 0 (pair_size i64 i64) (array (Bound 0 1)))
+unfolding agree all_agree kept all_kept leaving type_levels all_type_levels of_type of_types all_settled parts_settled data_met functions_met all_matched applied collected all_collected sizes_in function_size chosen_in quantified closed filled all_filled read all_read opened_inside compared all_compared meet all_meet elements_agree slice_size indexed updated operation sized_type prim_size sizing type_of type_in instance instances used taken all_taken fields_taken bound_by erased all_erased is_free is_dim levels all_levels levels_within all_levels_within replaced all_replaced has some_has takes some_takes is_open some_open matched lacking all_lacking differing all_differing turns_from pattern_noted patterns_noted fields_noted sized all_sized turns_sized condition_sized right_sized inner_sized part_of changed_part has_sizes all_have_sizes fields_have_sizes with_sizes all_with_sizes fields_with_sizes ascribed coerced coercion parameter_size declared
+part_leaves = refl
+
+-- \a (xs: [a]i64) -> xs: a parameter that is a name is the argument's value
+value_named : size_in (but 2 list_ty all_i64) (Lambda (pattern_and (named 8) (pattern_and (typed 10 8) no_pattern)) (var 10)) ≡ Ok (Fun 0 i64 (Fun 0 (array (Bound 1 0)) (array (Bound 1 0))))
+unfolding agree all_agree kept all_kept leaving type_levels all_type_levels of_type of_types all_settled parts_settled data_met functions_met all_matched applied collected all_collected sizes_in function_size chosen_in quantified closed filled all_filled read all_read opened_inside compared all_compared meet all_meet elements_agree slice_size indexed updated operation sized_type prim_size sizing type_of type_in instance instances used taken all_taken fields_taken bound_by erased all_erased is_free is_dim levels all_levels levels_within all_levels_within replaced all_replaced has some_has takes some_takes is_open some_open matched lacking all_lacking differing all_differing turns_from pattern_noted patterns_noted fields_noted sized all_sized turns_sized condition_sized right_sized inner_sized part_of changed_part has_sizes all_have_sizes fields_have_sizes with_sizes all_with_sizes fields_with_sizes ascribed coerced coercion parameter_size declared
+value_named = refl

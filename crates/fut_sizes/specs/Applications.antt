@@ -10,7 +10,7 @@ use Rattle.fut_types.specs.declared.Head.TheVariants as head
 use Rattle.sized_types.specs.Sizes.{Free, Const, Name, Unknown, Slot, Dim, At, Variable, Size, Hole, Open, Level, Built, Fun, Sizes, no_size, size_and, renamed}
 use Rattle.fut_sizes.specs.Levels.{levels_within}
 use Rattle.fut_sizes.specs.Agreeing.{type_levels, of_type, Answer, then_do}
-use Rattle.fut_sizes.specs.Matching.{Found, found_size, type_found, counted, read, Opened, none_opened, inside, in_opened, meet, data_way, function_way}
+use Rattle.fut_sizes.specs.Matching.{Found, found_size, type_found, counted, made_at, read, Opened, none_opened, inside, in_opened, meet, data_way, function_way}
 use Rattle.fut_sizes.specs.Steps.{Step, give, ask, and_then}
 
 -- what an application at a node wants of a lambda
@@ -62,10 +62,10 @@ is_function (Fun k p r) = true
 is_function (Open n v u) = is_function_type u
 is_function t = false
 
--- ---- variables that are still open get sizes of their own
+-- ---- variables that are still open get sizes of their own, made at the use that opened them
 
 abbrev pub own_type : ℕ → Variable → Ty → Found → Found
-own_type n v u σ = type_found n v (renamed (found_size σ) (of_type (λ i. At (Slot (σ.next + i))) 0 u)) (counted (type_levels u) σ)
+own_type n v u σ = type_found n v (renamed (found_size σ) (of_type (λ i. At (Slot (σ.next + i))) 0 u)) (counted (type_levels u) (made_at n σ))
 
 abbrev pub still_open : ℕ → Variable → Size → Found → Found
 still_open n v (Open m w u) σ = own_type m w u σ
@@ -90,6 +90,8 @@ is_arrow t = false
 -- ---- one argument after another
 
 pub record Wanting : Type 0 where
+  -- the node of its application
+  pub node : ℕ
   pub argument : Argument
   pub opened : Opened
   pub wanted : Size
@@ -115,38 +117,39 @@ uses (w ∷ ws) = with_use w.argument w.opened w.wanted (uses ws)
 abbrev pub applied_frame : ℕ → ℕ → ℕ → Argument → ℕ → Dim
 applied_frame n next k a i = cond (nat_lt i k) (At (Slot (next + i))) (cond (nat_eq i k) (argument_value a (Unknown n (next + k))) (At (Unknown n (next + i))))
 
+-- each argument is matched by its own application, which makes what is new
+unfoldable pub data_met : List Wanting → Found → Answer Found
+data_met [] σ = Ok σ
+data_met (w ∷ ws) σ = then_do (one w.argument) (λ found. data_met ws found)
+  where
+    one : Argument → Answer Found
+    one (Early at value named t) = cond (is_function t) (Ok σ) (meet w.node data_way at w.opened w.wanted none_opened t (made_at w.node σ))
+    one (Late at f) = Ok σ
+
+unfoldable pub functions_met : Bool → List Wanting → Found → Step Found
+functions_met regular [] σ = give σ
+functions_met regular (w ∷ ws) σ = and_then (one w.argument) (λ found. functions_met regular ws found)
+  where
+    one : Argument → Step Found
+    one (Early at value named t) = cond (is_function t) (ask (meet w.node (function_way regular) at w.opened w.wanted none_opened t (made_at w.node σ))) (give σ)
+    one (Late at f) = and_then (f (Some (record { node = w.node; is_regular = regular; size = read σ (in_opened w.opened w.wanted) })) (made_at w.node σ)) (λ m. give m.found)
+
+unfoldable pub all_matched : Bool → List Wanting → Found → Step Found
+all_matched regular ws σ = and_then (ask (data_met ws σ)) (λ found. functions_met regular ws found)
+
 module _ (n : ℕ) where
-  unfoldable pub data_met : List Wanting → Found → Answer Found
-  data_met [] σ = Ok σ
-  data_met (w ∷ ws) σ = then_do (one w.argument) (λ found. data_met ws found)
-    where
-      one : Argument → Answer Found
-      one (Early at value named t) = cond (is_function t) (Ok σ) (meet n data_way at w.opened w.wanted none_opened t σ)
-      one (Late at f) = Ok σ
-
-  unfoldable pub functions_met : Bool → List Wanting → Found → Step Found
-  functions_met regular [] σ = give σ
-  functions_met regular (w ∷ ws) σ = and_then (one w.argument) (λ found. functions_met regular ws found)
-    where
-      one : Argument → Step Found
-      one (Early at value named t) = cond (is_function t) (ask (meet n (function_way regular) at w.opened w.wanted none_opened t σ)) (give σ)
-      one (Late at f) = and_then (f (Some (record { node = n; is_regular = regular; size = read σ (in_opened w.opened w.wanted) })) σ) (λ m. give m.found)
-
-  unfoldable pub all_matched : Bool → List Wanting → Found → Step Found
-  all_matched regular ws σ = and_then (ask (data_met ws σ)) (λ found. functions_met regular ws found)
-
   -- the rest of the arguments; those that wait are matched where no arrow is left. The node of a function is so many behind n
   -- as arguments are left, that of its application one less.
   unfoldable pub applied : Bool → List Argument → List Wanting → Opened → Bool → Size → List Later → Found → Step Met
   applied regular [] ws φ goes_on t ls σ = and_then (all_matched regular ws σ) (λ found. give (record { size = read found (in_opened φ t); found = found; later = ls ++ uses ws; goes_on = goes_on }))
   applied regular (a ∷ rest) ws φ goes_on (Fun k p r) ls σ = applied regular rest
-      (ws ++ record { argument = a; opened = inside (applied_frame (n + length rest) σ.next k a) φ; wanted = p } ∷ [])
+      (ws ++ record { node = n + length rest; argument = a; opened = inside (applied_frame (n + length rest) σ.next k a) φ; wanted = p } ∷ [])
       (inside (applied_frame (n + length rest) σ.next k a) φ) (is_arrow r) r
-      (ls ++ record { node = suc (n + length rest); size = in_opened φ (Fun k p r) } ∷ []) (counted (suc k + levels_within r) σ)
+      (ls ++ record { node = suc (n + length rest); size = in_opened φ (Fun k p r) } ∷ []) (counted (suc k + levels_within r) (made_at (n + length rest) σ))
   applied regular (a ∷ rest) ws φ goes_on t ls σ = and_then (all_matched regular ws σ) (λ found. again (read found (in_opened φ t)) found (applied regular rest))
     where
       again : Size → Found → (List Wanting → Opened → Bool → Size → List Later → Found → Step Met) → Step Met
-      again (Fun k p r) found go = go (record { argument = a; opened = inside (applied_frame (n + length rest) found.next k a) none_opened; wanted = p } ∷ [])
+      again (Fun k p r) found go = go (record { node = n + length rest; argument = a; opened = inside (applied_frame (n + length rest) found.next k a) none_opened; wanted = p } ∷ [])
           (inside (applied_frame (n + length rest) found.next k a) none_opened) (is_arrow r) r
-          (ls ++ uses ws ++ record { node = suc (n + length rest); size = Fun k p r } ∷ []) (counted (suc k + levels_within r) found)
+          (ls ++ uses ws ++ record { node = suc (n + length rest); size = Fun k p r } ∷ []) (counted (suc k + levels_within r) (made_at (n + length rest) found))
       again u found go = give (record { size = u; found = found; later = ls ++ uses ws; goes_on = false })

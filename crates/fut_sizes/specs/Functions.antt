@@ -103,16 +103,16 @@ size_names [] = []
 size_names (Size_parameter b ∷ ps) = b.0 ∷ size_names ps
 size_names (Type_parameter b lifted ∷ ps) = size_names ps
 
--- ---- what is still open once an application at a node is matched: where it stands in the parameter of a function, that
--- function's caller chooses it; else it is unknown
+-- ---- what is still open once an application is matched: where it stands in the parameter of a function, that function's
+-- caller chooses it; else it is an unknown of the node that made it, so that no function knows of the nodes around it
 
 abbrev pub is_slot : Free → Bool
 is_slot (Slot i) = true
 is_slot d = false
 
-abbrev pub unknown_slot : ℕ → Free → Free
-unknown_slot n (Slot i) = Unknown n i
-unknown_slot n d = d
+abbrev pub unknown_slot : (ℕ → ℕ) → Free → Free
+unknown_slot maker (Slot i) = Unknown (maker i) i
+unknown_slot maker d = d
 
 -- new positions stand behind the k that the caller chooses already
 abbrev pub at_slot : ℕ → ℕ → Option ℕ → Free → Dim
@@ -127,16 +127,16 @@ chosen_again k ds j (Bound l i) = Bound l (cond (nat_eq l j) (cond (nat_lt i k) 
 abbrev pub behind : ℕ → ℕ → List Free → (ℕ → Dim → Dim) → ℕ → Dim → Dim
 behind k j ds outer i d = chosen_again k ds (i - suc j) (outer i d)
 
-unfoldable pub chosen_in : ℕ → (ℕ → Dim → Dim) → ℕ → Size → Size
-chosen_in n outer j (Fun k p r) = Fun (length (sizes_in is_slot (replaced outer (suc j) p)) + k)
+unfoldable pub chosen_in : (ℕ → ℕ) → (ℕ → Dim → Dim) → ℕ → Size → Size
+chosen_in maker outer j (Fun k p r) = Fun (length (sizes_in is_slot (replaced outer (suc j) p)) + k)
     (replaced (behind k j (sizes_in is_slot (replaced outer (suc j) p)) outer) (suc j) p)
-    (chosen_in n (behind k j (sizes_in is_slot (replaced outer (suc j) p)) outer) (suc j) r)
-chosen_in n outer j t = renamed (unknown_slot n) (replaced outer j t)
+    (chosen_in maker (behind k j (sizes_in is_slot (replaced outer (suc j) p)) outer) (suc j) r)
+chosen_in maker outer j t = renamed (unknown_slot maker) (replaced outer j t)
 
-unfoldable pub quantified : ℕ → Size → Size
-quantified n t = chosen_in n (λ j d. d) 0 t
+unfoldable pub quantified : (ℕ → ℕ) → Size → Size
+quantified maker t = chosen_in maker (λ j d. d) 0 t
 
 -- after a function's last arrow nothing is chosen again
-unfoldable pub closed : Bool → ℕ → Size → Size
-closed true n t = quantified n t
-closed false n t = renamed (unknown_slot n) t
+unfoldable pub closed : Bool → (ℕ → ℕ) → Size → Size
+closed true maker t = quantified maker t
+closed false maker t = renamed (unknown_slot maker) t

@@ -12,18 +12,20 @@ use Rattle.fut_sizes.specs.Agreeing.{Mismatch, Irregular, Answer, then_do, agree
 pub record Found : Type 0 where
   pub size : ℕ → Free
   pub type : ℕ → Variable → Ty → Size
-  -- the next number of a slot, and of an unknown of the application's node
+  -- the next number of a slot, and of an unknown of an application's node
   pub next : ℕ
+  -- the node at which a number was made
+  pub maker : ℕ → ℕ
 
 abbrev pub nothing_found : Found
-nothing_found = record { size = Slot; type = Open; next = 0 }
+nothing_found = record { size = Slot; type = Open; next = 0; maker = λ i. 0 }
 
 abbrev pub put : ℕ → Free → Free → Free
 put i d (Slot j) = cond (nat_eq i j) d (Slot j)
 put i d e = e
 
 abbrev pub size_found : ℕ → Free → Found → Found
-size_found i d σ = record { size = λ j. put i d (σ.size j); type = λ n v u. renamed (put i d) (σ.type n v u); next = σ.next }
+size_found i d σ = record { size = λ j. put i d (σ.size j); type = λ n v u. renamed (put i d) (σ.type n v u); next = σ.next; maker = σ.maker }
 
 abbrev pub is_open : ℕ → Variable → ℕ → Variable → Bool
 is_open n v m w = nat_eq n m && is_variable v w
@@ -41,10 +43,14 @@ unfoldable mutual
   all_filled n v u (size_and t ts) = size_and (filled n v u t) (all_filled n v u ts)
 
 abbrev pub type_found : ℕ → Variable → Size → Found → Found
-type_found n v u σ = record { size = σ.size; type = λ m w t. filled n v u (σ.type m w t); next = σ.next }
+type_found n v u σ = record { size = σ.size; type = λ m w t. filled n v u (σ.type m w t); next = σ.next; maker = σ.maker }
 
 abbrev pub counted : ℕ → Found → Found
-counted i σ = record { size = σ.size; type = σ.type; next = i + σ.next }
+counted i σ = record { size = σ.size; type = σ.type; next = i + σ.next; maker = σ.maker }
+
+-- from the next number on they are made at a node
+abbrev pub made_at : ℕ → Found → Found
+made_at n σ = record { size = σ.size; type = σ.type; next = σ.next; maker = λ i. cond (nat_lt i σ.next) (σ.maker i) n }
 
 -- what is found, read in a sized type
 abbrev pub found_size : Found → Free → Free

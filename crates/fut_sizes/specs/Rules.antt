@@ -11,7 +11,7 @@ use Rattle.fut_flat.specs.Erased.{FlatTerm, FlatTurns, FlatPattern}
 use Rattle.fut_types.specs.declared.Head.TheVariants as head
 use Rattle.fut_types.specs.Types.{Sub}
 use Rattle.fut_typing.specs.Names.{Names}
-use Rattle.sized_types.specs.Sizes.{Free, Const, Name, Own, Unknown, Slot, Variable, Size, Hole, Open, Level, Built, Fun, Sizes, no_size, size_and, erased, opened, renamed, takes}
+use Rattle.sized_types.specs.Sizes.{Free, Const, Name, Own, Unknown, Slot, Variable, Size, Hole, Open, Level, Built, Fun, Sizes, no_size, size_and, erased, opened, renamed, has, takes}
 use Rattle.fut_sizes.specs.Primitives.{prim_size}
 use Rattle.fut_sizes.specs.Agreeing.{kept, leave, is_among, names_one}
 use Rattle.fut_sizes.specs.WrittenSizes.{part_of}
@@ -162,10 +162,11 @@ module _ (N : Names) (types : Sub) (s : ℕ → Size) (home : ℕ → ℕ) where
   Telling no_pattern q at k from to G = Data from → Data to → Each (Of_positions (λ i. i < k)) 1 to → Each (Scoped (Tells_size q G)) 0 (s at) × Each_hole (Tells_type q G) (s at)
   Telling (pattern_and p ps) q at k from to G = Unit {0}
 
-  -- a function of these parameters gives what its body gives, without the names that are parts of arguments
+  -- a function of these parameters gives what its body gives, without the names that are parts of arguments; no parameter has
+  -- one of these in its sized type
   abbrev pub Takes : (Context → Type 0) → List ℕ → Patterns Ref BindId → ℕ → ℕ → ℕ → ℕ → Size → Context → Type 0
   Takes body parts no_pattern lo q at hi u G = (takes (names_one parts) (s at) ≡ false) × (u ≡ renamed (leave lo parts) (s at)) × body G
-  Takes body parts (pattern_and p ps) lo q at hi u G = (B : Binder lo at hi p q u) × Telling ps q at B.chosen B.from B.to G
+  Takes body parts (pattern_and p ps) lo q at hi u G = (B : Binder lo at hi p q u) × (has (names_one parts) (s q) ≡ false) × Telling ps q at B.chosen B.from B.to G
       × Takes body parts ps lo (q + pattern_numbers p) at hi (opened B.inside B.to) (with_pattern s p q (with_positions B.position G))
 
   -- ---- applications

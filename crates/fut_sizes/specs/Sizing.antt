@@ -12,7 +12,7 @@ use Rattle.fut_types.specs.Types.{Sub}
 use Rattle.fut_typing.specs.Names.{Names}
 use Rattle.sized_types.specs.Sizes.{Name, Own, Unknown, Slot, Dim, At, Bound, Size, Hole, Open, Level, Built, Fun, Sizes, no_size, size_and, is_dim, levels, renamed, has}
 use Rattle.fut_sizes.specs.Primitives.{prim_size, is_regular}
-use Rattle.fut_sizes.specs.Agreeing.{Escapes, Answer, then_do, kept, no_size_of, is_among, leaving, of_type}
+use Rattle.fut_sizes.specs.Agreeing.{Escapes, Answer, then_do, kept, no_size_of, is_among, names_one, leaving, of_type}
 use Rattle.fut_sizes.specs.WrittenSizes.{part_of, coerced, same_dim, parameter_size}
 use Rattle.fut_sizes.specs.Operations.{operation}
 use Rattle.fut_sizes.specs.Matching.{Found, nothing_found, read, none_opened, inside, in_opened, data_way, function_way, meet}
@@ -73,6 +73,11 @@ part_names p = names p
 abbrev pub all_part_names : Patterns Ref BindId → List ℕ
 all_part_names no_pattern = []
 all_part_names (pattern_and p ps) = part_names p ++ all_part_names ps
+
+-- the names of parts go out of scope with the function: no sized type of a parameter has one
+abbrev pub leaving_function : ℕ → List ℕ → List Taking → Size → Answer Size
+leaving_function n parts [] t = leaving n parts t
+leaving_function n parts (p ∷ ps) t = cond (has (names_one parts) p.size) (Err (Escapes n)) (leaving_function n parts ps t)
 
 abbrev pub bind_ids : List BindId → List ℕ
 bind_ids = map (λ (b : BindId). b.0)
@@ -202,13 +207,13 @@ module _ (N : Names) (types : Sub) where
   parameters_noted [] = give tt
   parameters_noted (p ∷ ps) = and_then (pattern_noted p.pattern p.node p.size) (λ z. parameters_noted ps)
 
-  -- the sized types of nodes within an application at n, once all is matched
-  abbrev pub all_noted : ℕ → List Later → Found → Step (Unit {0})
-  all_noted n [] σ = give tt
-  all_noted n (l ∷ ls) σ = and_then (note l.node (quantified n (read (all_settled l.size σ) l.size))) (λ z. all_noted n ls (all_settled l.size σ))
+  -- the sized types of nodes within an application, once all is matched
+  abbrev pub all_noted : List Later → Found → Step (Unit {0})
+  all_noted [] σ = give tt
+  all_noted (l ∷ ls) σ = and_then (note l.node (quantified (all_settled l.size σ).maker (read (all_settled l.size σ) l.size))) (λ z. all_noted ls (all_settled l.size σ))
 
   abbrev pub met_noted : ℕ → Met → Step Size
-  met_noted n m = and_then (all_noted n m.later (all_settled m.size m.found)) (λ z. note n (closed m.goes_on n (read (all_settled m.size m.found) m.size)))
+  met_noted n m = and_then (all_noted m.later (all_settled m.size m.found)) (λ z. note n (closed m.goes_on (all_settled m.size m.found).maker (read (all_settled m.size m.found) m.size)))
 
   -- a part at a node by itself: its function is applied to the arguments so far
   abbrev pub finished : ℕ → Part → Step Size
@@ -287,7 +292,7 @@ module _ (N : Names) (types : Sub) where
         and_then (parameters_noted E.parameters) (λ y.
         and_then (sized e [] (1 + lo + all_pattern_numbers ps) E.scope) (λ part.
         and_then (finished (1 + lo + all_pattern_numbers ps) part) (λ body.
-        and_then (ask (leaving lo (all_part_names ps) body)) (λ r.
+        and_then (ask (leaving_function lo (all_part_names ps) E.parameters body)) (λ r.
         and_then (note lo (function_size bs lo (1 + lo + all_pattern_numbers ps + numbers e) E.parameters r)) (λ own. ask (matched lo w own E.found))))))))))
     sized (Apply f e) bs lo scope = and_then (sized f [] (1 + lo) scope) (λ part.
         and_then (sized e [] (1 + lo + numbers f) scope) (λ given.

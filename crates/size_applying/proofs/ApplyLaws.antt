@@ -5,7 +5,7 @@ use Rattle.sized_types.specs.Sizes.{Dim, At, Bound, Size, Hole, Open, Level, Bui
 use Rattle.fut_sizes.specs.Agreeing.{Refusal}
 use Rattle.fut_sizes.specs.Applications.{Argument, Later, Met, Wanting, all_matched, applied, applied_frame, is_arrow, uses}
 use Rattle.fut_sizes.specs.Levels.{levels_within}
-use Rattle.fut_sizes.specs.Matching.{Found, Opened, counted, dim_in, in_opened, inside, lifted, none_opened, read}
+use Rattle.fut_sizes.specs.Matching.{Found, Opened, counted, made_at, dim_in, in_opened, inside, lifted, none_opened, read}
 use Rattle.fut_sizes.specs.Steps.{State, Done, Step}
 
 -- ---- what stands in no opened function type is as it is
@@ -42,12 +42,12 @@ in_none t = closed_at 0 t
 
 -- what it wants of an argument, and what it is sized as later
 abbrev pub wanting_at : ℕ → Argument → Opened → ℕ → Size → Found → Wanting
-wanting_at n a φ k p σ = record { argument = a; opened = inside (applied_frame n σ.next k a) φ; wanted = p }
+wanting_at n a φ k p σ = record { node = n; argument = a; opened = inside (applied_frame n σ.next k a) φ; wanted = p }
 
 module _ (n : ℕ) (regular : Bool) (a : Argument) (rest : List Argument) where
   pub arrow_law : (ws : List Wanting) (φ : Opened) (goes_on : Bool) (t : Size) (ls : List Later) (σ : Found) (k : ℕ) (p r : Size) → t ≡ Fun k p r
       → applied n regular (a ∷ rest) ws φ goes_on t ls σ ≡ applied n regular rest (ws ++ wanting_at (n + length rest) a φ k p σ ∷ []) (inside (applied_frame (n + length rest) σ.next k a) φ) (is_arrow r) r
-      (ls ++ record { node = suc (n + length rest); size = in_opened φ t } ∷ []) (counted (suc k + levels_within r) σ)
+      (ls ++ record { node = suc (n + length rest); size = in_opened φ t } ∷ []) (counted (suc k + levels_within r) (made_at (n + length rest) σ))
   unfolding applied
   arrow_law ws φ goes_on t ls σ k p r is = rw is refl
 
@@ -55,15 +55,15 @@ module _ (n : ℕ) (regular : Bool) (a : Argument) (rest : List Argument) where
 
   -- the same arrow, and later nodes that stand otherwise in brackets
   once_more : (ks : List Later) (ls : List Later) (k : ℕ) (p r : Size) (σ : Found)
-      → applied n regular rest (wanting_at (n + length rest) a none_opened k p σ ∷ []) (inside (applied_frame (n + length rest) σ.next k a) none_opened) (is_arrow r) r (ks ++ ls ++ record { node = suc (n + length rest); size = Fun k p r } ∷ []) (counted (suc k + levels_within r) σ)
+      → applied n regular rest (wanting_at (n + length rest) a none_opened k p σ ∷ []) (inside (applied_frame (n + length rest) σ.next k a) none_opened) (is_arrow r) r (ks ++ ls ++ record { node = suc (n + length rest); size = Fun k p r } ∷ []) (counted (suc k + levels_within r) (made_at (n + length rest) σ))
       ≡ applied n regular (a ∷ rest) [] none_opened false (Fun k p r) (ks ++ ls) σ
   unfolding applied
-  once_more ks ls k p r σ = ap (λ z. applied n regular rest (wanting_at (n + length rest) a none_opened k p σ ∷ []) (inside (applied_frame (n + length rest) σ.next k a) none_opened) (is_arrow r) r z (counted (suc k + levels_within r) σ))
+  once_more ks ls k p r σ = ap (λ z. applied n regular rest (wanting_at (n + length rest) a none_opened k p σ ∷ []) (inside (applied_frame (n + length rest) σ.next k a) none_opened) (is_arrow r) r z (counted (suc k + levels_within r) (made_at (n + length rest) σ)))
       (ap (λ z. ks ++ ls ++ record { node = suc (n + length rest); size = z } ∷ []) (sym (in_none (Fun k p r))))
 
-  module _ (ws : List Wanting) (φ : Opened) (goes_on : Bool) (ls : List Later) (σ : Found) (s : State) (d : Done Found) (matched : all_matched n regular ws σ s ≡ Ok d) where
+  module _ (ws : List Wanting) (φ : Opened) (goes_on : Bool) (ls : List Later) (σ : Found) (s : State) (d : Done Found) (matched : all_matched regular ws σ s ≡ Ok d) where
     taken_again : (t : Size) (k : ℕ) (p r : Size) → is_arrow t ≡ false → read d.result (in_opened φ t) ≡ Fun k p r
-        → applied n regular (a ∷ rest) ws φ goes_on t ls σ s ≡ applied n regular rest (wanting_at (n + length rest) a none_opened k p d.result ∷ []) (inside (applied_frame (n + length rest) d.result.next k a) none_opened) (is_arrow r) r (ls ++ uses ws ++ record { node = suc (n + length rest); size = Fun k p r } ∷ []) (counted (suc k + levels_within r) d.result) d.state
+        → applied n regular (a ∷ rest) ws φ goes_on t ls σ s ≡ applied n regular rest (wanting_at (n + length rest) a none_opened k p d.result ∷ []) (inside (applied_frame (n + length rest) d.result.next k a) none_opened) (is_arrow r) r (ls ++ uses ws ++ record { node = suc (n + length rest); size = Fun k p r } ∷ []) (counted (suc k + levels_within r) (made_at (n + length rest) d.result)) d.state
     unfolding applied
     taken_again (Fun l q o) k p r h e = cc
     taken_again (Hole v) k p r h e = rw (matched, e) refl
@@ -84,7 +84,7 @@ module _ (n : ℕ) (regular : Bool) (a : Argument) (rest : List Argument) where
         → applied n regular (a ∷ rest) ws φ goes_on t ls σ s ≡ Ok (record { result = record { size = read d.result (in_opened φ t); found = d.result; later = ls ++ uses ws; goes_on = false }; state = d.state })
     over_law t h i = over_by t (read d.result (in_opened φ t)) h i refl
 
-  pub again_stop : (ws : List Wanting) (φ : Opened) (goes_on : Bool) (ls : List Later) (σ : Found) (s : State) (t : Size) → is_arrow t ≡ false → (e : Refusal) → all_matched n regular ws σ s ≡ Err e
+  pub again_stop : (ws : List Wanting) (φ : Opened) (goes_on : Bool) (ls : List Later) (σ : Found) (s : State) (t : Size) → is_arrow t ≡ false → (e : Refusal) → all_matched regular ws σ s ≡ Err e
       → applied n regular (a ∷ rest) ws φ goes_on t ls σ s ≡ Err e
   unfolding applied
   again_stop ws φ goes_on ls σ s (Fun l q o) h e p = cc
@@ -93,11 +93,11 @@ module _ (n : ℕ) (regular : Bool) (a : Argument) (rest : List Argument) where
 -- ---- at the end
 
 module _ (n : ℕ) (regular : Bool) (ws : List Wanting) (φ : Opened) (goes_on : Bool) (t : Size) (ls : List Later) (σ : Found) (s : State) where
-  pub end_law : (d : Done Found) → all_matched n regular ws σ s ≡ Ok d
+  pub end_law : (d : Done Found) → all_matched regular ws σ s ≡ Ok d
       → applied n regular [] ws φ goes_on t ls σ s ≡ Ok (record { result = record { size = read d.result (in_opened φ t); found = d.result; later = ls ++ uses ws; goes_on = goes_on }; state = d.state })
   unfolding applied
   end_law d p = rw p refl
 
-  pub end_stop : (e : Refusal) → all_matched n regular ws σ s ≡ Err e → applied n regular [] ws φ goes_on t ls σ s ≡ Err e
+  pub end_stop : (e : Refusal) → all_matched regular ws σ s ≡ Err e → applied n regular [] ws φ goes_on t ls σ s ≡ Err e
   unfolding applied
   end_stop e p = rw p refl

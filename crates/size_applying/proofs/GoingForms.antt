@@ -7,7 +7,7 @@ use Rattle.sized_types.specs.Sizes.{Size}
 use Rattle.fut_sizes.specs.Applications.{Argument, Early, Late, Later, Wanting, applied_frame, is_arrow, uses, with_use}
 use Rattle.fut_sizes.specs.Levels.{levels_within}
 use Rattle.fut_sizes.specs.Matching as matching
-use Rattle.fut_sizes.specs.Matching.{Opened, counted, in_opened, inside, none_opened, read}
+use Rattle.fut_sizes.specs.Matching.{Opened, counted, in_opened, inside, made_at, none_opened, read}
 use Rattle.size_arena.specs.declared.dims.Free as frees
 use Rattle.size_arena.specs.declared.opened.Frame.TheVariants as frame
 use Rattle.size_arena.specs.declared.opened.Frames.{Frames}
@@ -46,8 +46,11 @@ inside_is t n next k v w rest is e = ap opened_of is ∙ opened_inside (frame.Ap
 
 pub ruleset insides = (inside_is)
 
-pub counting : (f g : Found) (k l a b : ℕ) → g.slots ≡ f.slots → g.chosen ≡ f.chosen → a ≡ f.next + k → b ≡ a + 1 → g.next ≡ b + l → (σ : matching.Found) → Holds f σ → Holds g (counted (suc k + l) σ)
-counting f g k l a b s c p q r σ holds = counted_held f g σ (suc k + l) s c (omega (arith, p, q, r)) holds
+pub counting : (f made g : Found) (n k l a b : ℕ) → ((σ : matching.Found) → Holds f σ → Holds made (made_at n σ)) → g.slots ≡ made.slots → g.chosen ≡ made.chosen → g.makers ≡ made.makers → a ≡ f.next + k → b ≡ a + 1 → g.next ≡ b + l → (σ : matching.Found) → Holds f σ → Holds g (counted (suc k + l) (made_at n σ))
+counting f made g n k l a b makes s c m p q r σ holds =
+    let before : σ.next ≡ f.next = holds.next in
+    let after : σ.next ≡ made.next = (makes σ holds).next in
+    counted_held made g (made_at n σ) (suc k + l) s c (omega (arith, p, q, r, before, after)) m (makes σ holds)
 
 frame_by : (N : Names) (types : Sub) (n next k : ℕ) {x : arguments.Argument} {a : Argument} → Is_argument N types x a → applied_at n next k (early_value x) ≡ applied_frame n next k a
 frame_by N types n next k (is_early {value = None}) = refl
@@ -56,10 +59,10 @@ frame_by N types n next k (is_late waits) = refl
 
 module _ (n : ℕ) (x : arguments.Argument) (height k : ℕ) (from to : Bor SizeTree) (old new : Application) (before after : Found) (is : old.gives.size.now ≡ size.Fun height k from to)
     (frames : opened_of new.gives.frames.now ≡ inside (applied_at n before.next k (early_value x)) (opened_of old.gives.frames.now))
-    (wants : new.wantings ≡ old.wantings ++ record { argument = x; frames = new.gives.frames; wanted = from } ∷ [])
+    (wants : new.wantings ≡ old.wantings ++ record { node = n; argument = x; frames = new.gives.frames; wanted = from } ∷ [])
     (later : laters_of new.later ≡ laters_of old.later ++ record { node = suc n; size = in_opened (opened_of old.gives.frames.now) (size_of old.gives.size.now) } ∷ [])
     (goes_on : new.gives.goes_on ≡ is_arrow (size_of to.now)) (gives : new.gives.size ≡ to)
-    (counted_so : (σ : matching.Found) → Holds before σ → Holds after (counted (suc k + levels_within (size_of to.now)) σ)) where
+    (counted_so : (σ : matching.Found) → Holds before σ → Holds after (counted (suc k + levels_within (size_of to.now)) (made_at n σ))) where
   module _ (N : Names) (types : Sub) (a : Argument) (ws : List Wanting) (φ : Opened) (so : Bool) (t : Size) (ls : List Later) (σ : matching.Found) (named : Is_argument N types x a) (goes : Goes N types old ws φ so t ls) (holds : Holds before σ) where
     frame_same : opened_of new.gives.frames.now ≡ inside (applied_frame n σ.next k a) φ
     frame_same = frames ∙ ap (λ z. inside z (opened_of old.gives.frames.now)) (frame_by N types n before.next k named ∙ ap (λ z. applied_frame n z k a) (sym holds.next)) ∙ ap (inside (applied_frame n σ.next k a)) goes.opened
@@ -71,8 +74,8 @@ module _ (n : ℕ) (x : arguments.Argument) (height k : ℕ) (from to : Bor Size
     pub arrow_done : Takes_arrow N types n a ws φ so t ls σ new after (Ok true)
     arrow_done = arrow_taken {k = k} {p = size_of from.now} {r = size_of to.now} (sym goes.gives ∙ fun_at old.gives.size.now height k from to is)
         (record {
-          wants = subst (λ z. All_want N types z (ws ++ record { argument = a; opened = inside (applied_frame n σ.next k a) φ; wanted = size_of from.now } ∷ [])) (sym wants)
-              (each_more (Wants N types) goes.wants (record { argument = x; frames = new.gives.frames; wanted = from }) (record { argument = a; opened = inside (applied_frame n σ.next k a) φ; wanted = size_of from.now }) (record { argument = named; opened = frame_same; wanted = refl }));
+          wants = subst (λ z. All_want N types z (ws ++ record { node = n; argument = a; opened = inside (applied_frame n σ.next k a) φ; wanted = size_of from.now } ∷ [])) (sym wants)
+              (each_more (Wants N types) goes.wants (record { node = n; argument = x; frames = new.gives.frames; wanted = from }) (record { node = n; argument = a; opened = inside (applied_frame n σ.next k a) φ; wanted = size_of from.now }) (record { node = refl; argument = named; opened = frame_same; wanted = refl }));
           opened = frame_same;
           last = goes_on;
           gives = ap (λ (z : Bor SizeTree). size_of z.now) gives;

@@ -40,84 +40,83 @@ noted_so H n t u f g r h is first = subst (λ z. Steps (λ (z : Unit {0}) (y : S
     by_runs a (refused p) = refused p
     by_runs a no_memory_left = no_memory_left
 
-module _ (n : ℕ) where
-  -- the nodes from one on are left
-  pub record Noted_far (N : Names) (types : Sub) (answer : Answer (Done (Unit {0}))) (g : Tables) (table : Found) (left : List Later) : Type 0 where
-    pub found : matching.Found
-    pub state : State
-    pub holds : Holds table found
-    pub stands : Stands g state
-    pub same : answer ≡ all_noted N types n left found state
+-- the nodes from one on are left
+pub record Noted_far (N : Names) (types : Sub) (answer : Answer (Done (Unit {0}))) (g : Tables) (table : Found) (left : List Later) : Type 0 where
+  pub found : matching.Found
+  pub state : State
+  pub holds : Holds table found
+  pub stands : Stands g state
+  pub same : answer ≡ all_noted N types left found state
 
-  abbrev pub So_noted : List laters.Later → Found → Tables → Found → Tables → ℕ → Type 0
-  So_noted ls before f table g i = (N : Names) (types : Sub) (σ : matching.Found) → Holds before σ → (s : State) → Stands f s → Noted_far N types (all_noted N types n (laters_of ls) σ s) g table (laters_of (drop i ls))
+abbrev pub So_noted : List laters.Later → Found → Tables → Found → Tables → ℕ → Type 0
+So_noted ls before f table g i = (N : Names) (types : Sub) (σ : matching.Found) → Holds before σ → (s : State) → Stands f s → Noted_far N types (all_noted N types (laters_of ls) σ s) g table (laters_of (drop i ls))
 
-  -- what is known of one node
-  abbrev pub Noting : laters.Later → Found → Tables → Found → Tables → Noted → Type 0
-  Noting l before f after g r = (σ : matching.Found) → Holds before σ → Steps (λ (z : Unit {0}) (y : Size). Holds after (all_settled (size_of l.size.now) σ)) (note l.node (quantified n (read (all_settled (size_of l.size.now) σ) (size_of l.size.now)))) f g r
+-- what is known of one node
+abbrev pub Noting : laters.Later → Found → Tables → Found → Tables → Noted → Type 0
+Noting l before f after g r = (σ : matching.Found) → Holds before σ → Steps (λ (z : Unit {0}) (y : Size). Holds after (all_settled (size_of l.size.now) σ)) (note l.node (quantified (all_settled (size_of l.size.now) σ).maker (read (all_settled (size_of l.size.now) σ) (size_of l.size.now)))) f g r
 
-  module _ (ls : List laters.Later) (before table after : Found) (f g h : Tables) (i : ℕ) (so_far : So_noted ls before f table g i) (x : laters.Later) (k : Noted) (l : i < length ls) (noting : Noting (get_or ls i x) table g after h k) where
-    left_is : laters_of (drop i ls) ≡ later_of (get_or ls i x) ∷ laters_of (drop (i + 1) ls)
-    left_is = ap laters_of (drop-cons ls i x l) ∙ ap (λ z. later_of (get_or ls i x) ∷ laters_of (drop z ls)) (sym (add-one i))
+module _ (ls : List laters.Later) (before table after : Found) (f g h : Tables) (i : ℕ) (so_far : So_noted ls before f table g i) (x : laters.Later) (k : Noted) (l : i < length ls) (noting : Noting (get_or ls i x) table g after h k) where
+  left_is : laters_of (drop i ls) ≡ later_of (get_or ls i x) ∷ laters_of (drop (i + 1) ls)
+  left_is = ap laters_of (drop-cons ls i x l) ∙ ap (λ z. later_of (get_or ls i x) ∷ laters_of (drop z ls)) (sym (add-one i))
 
-    abbrev one_step : (σ : matching.Found) → Step Size
-    one_step σ = note (get_or ls i x).node (quantified n (read (all_settled (size_of (get_or ls i x).size.now) σ) (size_of (get_or ls i x).size.now)))
+  abbrev one_step : (σ : matching.Found) → Step Size
+  one_step σ = note (get_or ls i x).node (quantified (all_settled (size_of (get_or ls i x).size.now) σ).maker (read (all_settled (size_of (get_or ls i x).size.now) σ) (size_of (get_or ls i x).size.now)))
 
-    one_same : (N : Names) (types : Sub) (answer : Answer (Done (Unit {0}))) (far : Noted_far N types answer g table (laters_of (drop i ls)))
-        → answer ≡ then_do (one_step far.found far.state) (λ d. all_noted N types n (laters_of (drop (i + 1) ls)) (all_settled (size_of (get_or ls i x).size.now) far.found) d.state)
-    one_same N types answer far = far.same ∙ ap (λ z. all_noted N types n z far.found far.state) left_is
+  one_same : (N : Names) (types : Sub) (answer : Answer (Done (Unit {0}))) (far : Noted_far N types answer g table (laters_of (drop i ls)))
+      → answer ≡ then_do (one_step far.found far.state) (λ d. all_noted N types (laters_of (drop (i + 1) ls)) (all_settled (size_of (get_or ls i x).size.now) far.found) d.state)
+  one_same N types answer far = far.same ∙ ap (λ z. all_noted N types z far.found far.state) left_is
 
-    pub noted_more : k ≡ Ok tt → So_noted ls before f after h (i + 1)
-    noted_more done N types σ holds s stands =
-        let far : Noted_far N types (all_noted N types n (laters_of ls) σ s) g table (laters_of (drop i ls)) = so_far N types σ holds s stands in
-        let d : Ran (λ (z : Unit {0}) (y : Size). Holds after (all_settled (size_of (get_or ls i x).size.now) far.found)) (one_step far.found far.state) h k ((noting far.found far.holds).steps far.state far.stands) tt
-        = ran (λ (z : Unit {0}) (y : Size). Holds after (all_settled (size_of (get_or ls i x).size.now) far.found)) (one_step far.found far.state) h k ((noting far.found far.holds).steps far.state far.stands) tt done in
-        record {
-          found = all_settled (size_of (get_or ls i x).size.now) far.found;
-          state = d.state;
-          holds = d.related;
-          stands = d.stands;
-          same = one_same N types (all_noted N types n (laters_of ls) σ s) far ∙ ap (λ z. then_do z (λ d. all_noted N types n (laters_of (drop (i + 1) ls)) (all_settled (size_of (get_or ls i x).size.now) far.found) d.state)) d.is;
-        }
+  pub noted_more : k ≡ Ok tt → So_noted ls before f after h (i + 1)
+  noted_more done N types σ holds s stands =
+      let far : Noted_far N types (all_noted N types (laters_of ls) σ s) g table (laters_of (drop i ls)) = so_far N types σ holds s stands in
+      let d : Ran (λ (z : Unit {0}) (y : Size). Holds after (all_settled (size_of (get_or ls i x).size.now) far.found)) (one_step far.found far.state) h k ((noting far.found far.holds).steps far.state far.stands) tt
+      = ran (λ (z : Unit {0}) (y : Size). Holds after (all_settled (size_of (get_or ls i x).size.now) far.found)) (one_step far.found far.state) h k ((noting far.found far.holds).steps far.state far.stands) tt done in
+      record {
+        found = all_settled (size_of (get_or ls i x).size.now) far.found;
+        state = d.state;
+        holds = d.related;
+        stands = d.stands;
+        same = one_same N types (all_noted N types (laters_of ls) σ s) far ∙ ap (λ z. then_do z (λ d. all_noted N types (laters_of (drop (i + 1) ls)) (all_settled (size_of (get_or ls i x).size.now) far.found) d.state)) d.is;
+      }
 
-    pub noted_stop : (e : SizeErr) → k ≡ Err e → (N : Names) (types : Sub) (σ : matching.Found) → Holds before σ → Steps (λ (u : Unit {0}) (y : Unit {0}). y ≡ u) (all_noted N types n (laters_of ls) σ) f h (Err e)
-    noted_stop e is N types σ holds = record {
-      steps = λ s stands.
-          let far : Noted_far N types (all_noted N types n (laters_of ls) σ s) g table (laters_of (drop i ls)) = so_far N types σ holds s stands in
-          subst (λ z. Runs (λ (u : Unit {0}) (y : Unit {0}). y ≡ u) z h (Err e)) (sym (one_same N types (all_noted N types n (laters_of ls) σ s) far))
-          (ran_not (λ (z : Unit {0}) (y : Size). Holds after (all_settled (size_of (get_or ls i x).size.now) far.found)) (one_step far.found far.state) h k ((noting far.found far.holds).steps far.state far.stands) (λ (u : Unit {0}) (y : Unit {0}). y ≡ u)
-          (λ d. all_noted N types n (laters_of (drop (i + 1) ls)) (all_settled (size_of (get_or ls i x).size.now) far.found) d.state) h e is);
-    }
-
-  pub noted_end : (ls : List laters.Later) (before table : Found) (f g : Tables) (i : ℕ) → So_noted ls before f table g i → length ls ≤ i → (N : Names) (types : Sub) (σ : matching.Found) → Holds before σ → Steps (λ (u : Unit {0}) (y : Unit {0}). y ≡ u) (all_noted N types n (laters_of ls) σ) f g (Ok tt)
-  noted_end ls before table f g i so_far l N types σ holds = record {
+  pub noted_stop : (e : SizeErr) → k ≡ Err e → (N : Names) (types : Sub) (σ : matching.Found) → Holds before σ → Steps (λ (u : Unit {0}) (y : Unit {0}). y ≡ u) (all_noted N types (laters_of ls) σ) f h (Err e)
+  noted_stop e is N types σ holds = record {
     steps = λ s stands.
-        let far : Noted_far N types (all_noted N types n (laters_of ls) σ s) g table (laters_of (drop i ls)) = so_far N types σ holds s stands in
-        runs far.state (far.same ∙ ap (λ z. all_noted N types n (laters_of z) far.found far.state) (drop_of_length-le ls l)) refl far.stands;
+        let far : Noted_far N types (all_noted N types (laters_of ls) σ s) g table (laters_of (drop i ls)) = so_far N types σ holds s stands in
+        subst (λ z. Runs (λ (u : Unit {0}) (y : Unit {0}). y ≡ u) z h (Err e)) (sym (one_same N types (all_noted N types (laters_of ls) σ s) far))
+        (ran_not (λ (z : Unit {0}) (y : Size). Holds after (all_settled (size_of (get_or ls i x).size.now) far.found)) (one_step far.found far.state) h k ((noting far.found far.holds).steps far.state far.stands) (λ (u : Unit {0}) (y : Unit {0}). y ≡ u)
+        (λ d. all_noted N types (laters_of (drop (i + 1) ls)) (all_settled (size_of (get_or ls i x).size.now) far.found) d.state) h e is);
   }
+
+pub noted_end : (ls : List laters.Later) (before table : Found) (f g : Tables) (i : ℕ) → So_noted ls before f table g i → length ls ≤ i → (N : Names) (types : Sub) (σ : matching.Found) → Holds before σ → Steps (λ (u : Unit {0}) (y : Unit {0}). y ≡ u) (all_noted N types (laters_of ls) σ) f g (Ok tt)
+noted_end ls before table f g i so_far l N types σ holds = record {
+  steps = λ s stands.
+      let far : Noted_far N types (all_noted N types (laters_of ls) σ s) g table (laters_of (drop i ls)) = so_far N types σ holds s stands in
+      runs far.state (far.same ∙ ap (λ z. all_noted N types (laters_of z) far.found far.state) (drop_of_length-le ls l)) refl far.stands;
+}
 
 -- ---- the whole
 
-module _ (N : Names) (types : Sub) (n : ℕ) (ls : List Later) (σ : matching.Found) (f g h : Tables) (whole : Bor SizeTree) (k : Noted) (all : Steps (λ (u : Unit {0}) (y : Unit {0}). y ≡ u) (all_noted N types n ls σ) f g k) where
-  pub whole_first_stop : (e : SizeErr) → k ≡ Err e → Steps (λ (t : Bor SizeTree) (y : Size). y ≡ size_of t.now) (and_then (all_noted N types n ls σ) (λ z. note n (size_of whole.now))) f g (Err e)
-  whole_first_stop e stop = steps_stop (λ (u : Unit {0}) (y : Unit {0}). y ≡ u) (λ (t : Bor SizeTree) (y : Size). y ≡ size_of t.now) (all_noted N types n ls σ) (λ z. note n (size_of whole.now)) f g g k e stop all
+module _ (N : Names) (types : Sub) (n : ℕ) (ls : List Later) (σ : matching.Found) (f g h : Tables) (whole : Bor SizeTree) (k : Noted) (all : Steps (λ (u : Unit {0}) (y : Unit {0}). y ≡ u) (all_noted N types ls σ) f g k) where
+  pub whole_first_stop : (e : SizeErr) → k ≡ Err e → Steps (λ (t : Bor SizeTree) (y : Size). y ≡ size_of t.now) (and_then (all_noted N types ls σ) (λ z. note n (size_of whole.now))) f g (Err e)
+  whole_first_stop e stop = steps_stop (λ (u : Unit {0}) (y : Unit {0}). y ≡ u) (λ (t : Bor SizeTree) (y : Size). y ≡ size_of t.now) (all_noted N types ls σ) (λ z. note n (size_of whole.now)) f g g k e stop all
 
   module _ (j : Noted) (last : Steps (λ (u : Unit {0}) (y : Size). y ≡ size_of whole.now) (note n (size_of whole.now)) g h j) (done : k ≡ Ok tt) where
-    pub whole_noted : j ≡ Ok tt → Steps (λ (t : Bor SizeTree) (y : Size). y ≡ size_of t.now) (and_then (all_noted N types n ls σ) (λ z. note n (size_of whole.now))) f h (Ok whole)
-    whole_noted noted = steps_then (λ (u : Unit {0}) (y : Unit {0}). y ≡ u) (λ (t : Bor SizeTree) (y : Size). y ≡ size_of t.now) (all_noted N types n ls σ) (λ z. note n (size_of whole.now)) f g h k tt (Ok whole) done all
+    pub whole_noted : j ≡ Ok tt → Steps (λ (t : Bor SizeTree) (y : Size). y ≡ size_of t.now) (and_then (all_noted N types ls σ) (λ z. note n (size_of whole.now))) f h (Ok whole)
+    whole_noted noted = steps_then (λ (u : Unit {0}) (y : Unit {0}). y ≡ u) (λ (t : Bor SizeTree) (y : Size). y ≡ size_of t.now) (all_noted N types ls σ) (λ z. note n (size_of whole.now)) f g h k tt (Ok whole) done all
         (λ y related. weaker (λ (u : Unit {0}) (y : Size). y ≡ size_of whole.now) (λ (t : Bor SizeTree) (y : Size). y ≡ size_of t.now) (note n (size_of whole.now)) g h j tt whole noted (λ a e. e) last)
 
-    pub whole_stop : (e : SizeErr) → j ≡ Err e → Steps (λ (t : Bor SizeTree) (y : Size). y ≡ size_of t.now) (and_then (all_noted N types n ls σ) (λ z. note n (size_of whole.now))) f h (Err e)
-    whole_stop e stop = steps_then (λ (u : Unit {0}) (y : Unit {0}). y ≡ u) (λ (t : Bor SizeTree) (y : Size). y ≡ size_of t.now) (all_noted N types n ls σ) (λ z. note n (size_of whole.now)) f g h k tt (Err e) done all
+    pub whole_stop : (e : SizeErr) → j ≡ Err e → Steps (λ (t : Bor SizeTree) (y : Size). y ≡ size_of t.now) (and_then (all_noted N types ls σ) (λ z. note n (size_of whole.now))) f h (Err e)
+    whole_stop e stop = steps_then (λ (u : Unit {0}) (y : Unit {0}). y ≡ u) (λ (t : Bor SizeTree) (y : Size). y ≡ size_of t.now) (all_noted N types ls σ) (λ z. note n (size_of whole.now)) f g h k tt (Err e) done all
         (λ y related. stopped (λ (u : Unit {0}) (y : Size). y ≡ size_of whole.now) (λ (t : Bor SizeTree) (y : Size). y ≡ size_of t.now) (note n (size_of whole.now)) g h j e stop last)
 
 -- what is noted is closed
-pub result_told : (N : Names) (types : Sub) (n : ℕ) (size : Size) (goes_on : Bool) (ls : List Later) (σ : matching.Found) (f g : Tables) (t : Size) (r : Result (Bor SizeTree) SizeErr) → t ≡ closed goes_on n (read (all_settled size σ) size)
-    → Steps (λ (t : Bor SizeTree) (y : Size). y ≡ size_of t.now) (and_then (all_noted N types n ls (all_settled size σ)) (λ z. note n t)) f g r
+pub result_told : (N : Names) (types : Sub) (n : ℕ) (size : Size) (goes_on : Bool) (ls : List Later) (σ : matching.Found) (f g : Tables) (t : Size) (r : Result (Bor SizeTree) SizeErr) → t ≡ closed goes_on (all_settled size σ).maker (read (all_settled size σ) size)
+    → Steps (λ (t : Bor SizeTree) (y : Size). y ≡ size_of t.now) (and_then (all_noted N types ls (all_settled size σ)) (λ z. note n t)) f g r
     → Steps (λ (t : Bor SizeTree) (y : Size). y ≡ size_of t.now) (met_noted N types n (record { size = size; found = σ; later = ls; goes_on = goes_on })) f g r
-result_told N types n size goes_on ls σ f g t r is h = subst (λ u. Steps (λ (t : Bor SizeTree) (y : Size). y ≡ size_of t.now) (and_then (all_noted N types n ls (all_settled size σ)) (λ z. note n u)) f g r) is h
+result_told N types n size goes_on ls σ f g t r is h = subst (λ u. Steps (λ (t : Bor SizeTree) (y : Size). y ≡ size_of t.now) (and_then (all_noted N types ls (all_settled size σ)) (λ z. note n u)) f g r) is h
 
-pub closed_goes_on : (n : ℕ) (t u : Size) → t ≡ closed true n u → t ≡ quantified n u
+pub closed_goes_on : (n : ℕ → ℕ) (t u : Size) → t ≡ closed true n u → t ≡ quantified n u
 unfolding closed
 closed_goes_on n t u is = is
 

@@ -8,7 +8,7 @@ use Rattle.fut_sizes.specs.Agreeing.{Answer}
 use Rattle.fut_sizes.specs.Applications.{Argument, Later, Met, Wanting, all_matched, applied, applied_frame, is_arrow, uses}
 use Rattle.fut_sizes.specs.Levels.{levels_within}
 use Rattle.fut_sizes.specs.Matching as matching
-use Rattle.fut_sizes.specs.Matching.{Opened, counted, in_opened, inside, none_opened, nothing_found, read}
+use Rattle.fut_sizes.specs.Matching.{Opened, counted, made_at, in_opened, inside, none_opened, nothing_found, read}
 use Rattle.fut_sizes.specs.Steps.{State, Done, Step}
 use Rattle.size_arena.specs.declared.agreeing.SizeErr.{SizeErr}
 use Rattle.size_arena.specs.declared.agreeing.SizeErr.TheVariants as size_err
@@ -98,7 +98,7 @@ module _ (N : Names) (types : Sub) (n : ℕ) (regular : Bool) where
 
   -- what the calls say that match all that is wanted so far
   abbrev pub Matching : List wantings.Wanting → Found → Tables → Found → Tables → Result (Unit {0}) SizeErr → Type 0
-  Matching cs before g after h r = (ws : List Wanting) → All_want N types cs ws → (σ : matching.Found) → Holds before σ → Steps (matched_by after) (all_matched n regular ws σ) g h r
+  Matching cs before g after h r = (ws : List Wanting) → All_want N types cs ws → (σ : matching.Found) → Holds before σ → Steps (matched_by after) (all_matched regular ws σ) g h r
 
   -- ---- an arrow is taken
 
@@ -112,14 +112,14 @@ module _ (N : Names) (types : Sub) (n : ℕ) (regular : Bool) where
         goes_on = is_arrow r;
         gives = r;
         later = ls ++ record { node = suc m; size = in_opened φ t } ∷ [];
-        found = counted (suc k + levels_within r) σ;
+        found = counted (suc k + levels_within r) (made_at m σ);
         state = s;
         left_are = are;
         goes = goes;
         holds = holds;
         stands = stands;
         same = same ∙ ap (λ (z : Step Met). z s) (arrow_law n regular b bs ws φ goes_on t ls σ k p r e)
-            ∙ ap (λ z. applied n regular bs (ws ++ wanting_at z b φ k p σ ∷ []) (inside (applied_frame z σ.next k b) φ) (is_arrow r) r (ls ++ record { node = suc z; size = in_opened φ t } ∷ []) (counted (suc k + levels_within r) σ) s) (sym at);
+            ∙ ap (λ z. applied n regular bs (ws ++ wanting_at z b φ k p σ ∷ []) (inside (applied_frame z σ.next k b) φ) (is_arrow r) r (ls ++ record { node = suc z; size = in_opened φ t } ∷ []) (counted (suc k + levels_within r) (made_at z σ)) s) (sym at);
       }
       along_arrow (no_arrow_left e goes holds) is = cc
       along_arrow going.no_memory_left is = cc
@@ -191,17 +191,17 @@ module _ (N : Names) (types : Sub) (n : ℕ) (regular : Bool) where
         ready : (s : State) → Stands f s → Stuck (whole s) b after
         ready s stands = stuck b after k not_so taking s stands
 
-        matching_runs : (s : State) (stands : Stands f s) → Runs (matched_by met) (all_matched n regular (ready s stands).ws (ready s stands).found (ready s stands).state) h j
+        matching_runs : (s : State) (stands : Stands f s) → Runs (matched_by met) (all_matched regular (ready s stands).ws (ready s stands).found (ready s stands).state) h j
         matching_runs s stands = let r : Stuck (whole s) b after = ready s stands in (all r.ws r.goes.wants r.found r.holds).steps r.state r.stands
 
         module _ (done : j ≡ Ok tt) (new : Application) (last : Found) (i : Result Bool NoMemory) (again : Taking_again m x b met new last i) where
-          step : (s : State) (stands : Stands f s) → Ran (matched_by met) (all_matched n regular (ready s stands).ws (ready s stands).found (ready s stands).state) h j (matching_runs s stands) tt
-          step s stands = ran (matched_by met) (all_matched n regular (ready s stands).ws (ready s stands).found (ready s stands).state) h j (matching_runs s stands) tt done
+          step : (s : State) (stands : Stands f s) → Ran (matched_by met) (all_matched regular (ready s stands).ws (ready s stands).found (ready s stands).state) h j (matching_runs s stands) tt
+          step s stands = ran (matched_by met) (all_matched regular (ready s stands).ws (ready s stands).found (ready s stands).state) h j (matching_runs s stands) tt done
 
           pub way_again : i ≡ Ok true → Under_way whole f h new last rest
           way_again so s stands =
               let r : Stuck (whole s) b after = ready s stands in
-              let d : Ran (matched_by met) (all_matched n regular r.ws r.found r.state) h j (matching_runs s stands) tt = step s stands in
+              let d : Ran (matched_by met) (all_matched regular r.ws r.found r.state) h j (matching_runs s stands) tt = step s stands in
               let taken : Takes_arrow N types m r.first [] none_opened false (read d.result (in_opened r.opened r.gives)) (r.later ++ uses r.ws) d.result new last i = again r.first r.ws r.opened r.goes_on r.gives r.later d.result r.is_first r.goes d.related in
               let arrow : An_arrow (read d.result (in_opened r.opened r.gives)) = arrow_of N types m r.first [] none_opened false (read d.result (in_opened r.opened r.gives)) (r.later ++ uses r.ws) d.result new last taken so in
               along_arrow (whole s) h r.first r.behind m new last rest r.others (at ∙ ap (λ z. n + z) (sym (each_length (Is_argument N types) r.others))) [] none_opened false (read d.result (in_opened r.opened r.gives)) (r.later ++ uses r.ws) d.result d.state d.stands
@@ -209,7 +209,7 @@ module _ (N : Names) (types : Sub) (n : ℕ) (regular : Bool) where
               taken so
 
           over_by : (s : State) (c : Argument) (cs : List Argument) (ws : List Wanting) (φ : Opened) (goes_on : Bool) (t : Size) (ls : List Later) (σ τ : matching.Found) (u v : State) → whole s ≡ applied n regular (c ∷ cs) ws φ goes_on t ls σ u → is_arrow t ≡ false
-              → all_matched n regular ws σ u ≡ Ok (record { result = τ; state = v }) → Stands h v → {i : Result Bool NoMemory} → Takes_arrow N types m c [] none_opened false (read τ (in_opened φ t)) (ls ++ uses ws) τ new last i → i ≡ Ok false → Runs (Is_met last) (whole s) h (Ok new)
+              → all_matched regular ws σ u ≡ Ok (record { result = τ; state = v }) → Stands h v → {i : Result Bool NoMemory} → Takes_arrow N types m c [] none_opened false (read τ (in_opened φ t)) (ls ++ uses ws) τ new last i → i ≡ Ok false → Runs (Is_met last) (whole s) h (Ok new)
           over_by s c cs ws φ goes_on t ls σ τ u v same plain p stands (arrow_taken e goes holds) is = cc
           over_by s c cs ws φ goes_on t ls σ τ u v same plain p stands (no_arrow_left e goes holds) is =
               runs v (same ∙ over_law n regular c cs ws φ goes_on ls σ u (record { result = τ; state = v }) p t plain e) (record { size = goes.gives; found = holds; later = goes.later; goes_on = goes.last }) stands
@@ -219,14 +219,14 @@ module _ (N : Names) (types : Sub) (n : ℕ) (regular : Bool) where
           way_over over = record {
             steps = λ s stands.
                 let r : Stuck (whole s) b after = ready s stands in
-                let d : Ran (matched_by met) (all_matched n regular r.ws r.found r.state) h j (matching_runs s stands) tt = step s stands in
+                let d : Ran (matched_by met) (all_matched regular r.ws r.found r.state) h j (matching_runs s stands) tt = step s stands in
                 over_by s r.first r.behind r.ws r.opened r.goes_on r.gives r.later r.found d.result r.state d.state r.same r.no_arrow d.is d.stands (again r.first r.ws r.opened r.goes_on r.gives r.later d.result r.is_first r.goes d.related) over;
           }
 
         pub way_stop : {C : Type 0} (Q : C → Met → Type 0) (e : SizeErr) → j ≡ Err e → Steps Q whole f h (Err e)
         way_stop {C = C} Q e is = record { steps = λ s stands. by_runs s (ready s stands) (matching_runs s stands) is }
           where
-            by_runs : (s : State) (r : Stuck (whole s) b after) {j : Result (Unit {0}) SizeErr} → Runs (matched_by met) (all_matched n regular r.ws r.found r.state) h j → j ≡ Err e → Runs Q (whole s) h (Err e)
+            by_runs : (s : State) (r : Stuck (whole s) b after) {j : Result (Unit {0}) SizeErr} → Runs (matched_by met) (all_matched regular r.ws r.found r.state) h j → j ≡ Err e → Runs Q (whole s) h (Err e)
             by_runs s r (runs {x = u} v p z stands) is = elim (never_ok u e is) [ ]
             by_runs s r (refused {e = y} p) is = subst (λ z. Runs Q (whole s) h z) (other_err C (size_err.Refused y) e is) (refused (r.same ∙ again_stop n regular r.first r.behind r.ws r.opened r.goes_on r.later r.found r.state r.gives r.no_arrow _ p))
             by_runs s r no_memory_left is = subst (λ z. Runs Q (whole s) h z) (other_err C size_err.Memory e is) no_memory_left
@@ -234,7 +234,7 @@ module _ (N : Names) (types : Sub) (n : ℕ) (regular : Bool) where
   -- ---- no argument is left
 
   module _ (whole : Step Met) (f g : Tables) (a : Application) (before : Found) (left : List arguments.Argument) (none : left ≡ []) (way : Under_way whole f g a before left) (met : Found) (h : Tables) (j : Result (Unit {0}) SizeErr) (all : Matching a.wantings before g met h j) where
-    end_runs : (s : State) (stands : Stands f s) → Runs (matched_by met) (all_matched n regular (way s stands).ws (way s stands).found (way s stands).state) h j
+    end_runs : (s : State) (stands : Stands f s) → Runs (matched_by met) (all_matched regular (way s stands).ws (way s stands).found (way s stands).state) h j
     end_runs s stands = let r : Far (whole s) g a before left = way s stands in (all r.ws r.goes.wants r.found r.holds).steps r.state r.stands
 
     end_same : (s : State) (r : Far (whole s) g a before left) → whole s ≡ applied n regular [] r.ws r.opened r.goes_on r.gives r.later r.found r.state
@@ -246,7 +246,7 @@ module _ (N : Names) (types : Sub) (n : ℕ) (regular : Bool) where
     way_end new done concluded = record {
       steps = λ s stands.
           let r : Far (whole s) g a before left = way s stands in
-          let d : Ran (matched_by met) (all_matched n regular r.ws r.found r.state) h j (end_runs s stands) tt = ran (matched_by met) (all_matched n regular r.ws r.found r.state) h j (end_runs s stands) tt done in
+          let d : Ran (matched_by met) (all_matched regular r.ws r.found r.state) h j (end_runs s stands) tt = ran (matched_by met) (all_matched regular r.ws r.found r.state) h j (end_runs s stands) tt done in
           let goes : Goes N types new [] none_opened r.goes_on (read d.result (in_opened r.opened r.gives)) (r.later ++ uses r.ws) = concluded r.ws r.opened r.goes_on r.gives r.later d.result r.goes d.related in
           runs d.state (end_same s r ∙ end_law n regular r.ws r.opened r.goes_on r.gives r.later r.found r.state (record { result = d.result; state = d.state }) d.is) (record { size = goes.gives; found = d.related; later = goes.later; goes_on = goes.last }) d.stands;
     }
@@ -254,7 +254,7 @@ module _ (N : Names) (types : Sub) (n : ℕ) (regular : Bool) where
     pub way_end_stop : {C : Type 0} (Q : C → Met → Type 0) (e : SizeErr) → j ≡ Err e → Steps Q whole f h (Err e)
     way_end_stop {C = C} Q e is = record { steps = λ s stands. by_runs s (way s stands) (end_runs s stands) is }
       where
-        by_runs : (s : State) (r : Far (whole s) g a before left) {j : Result (Unit {0}) SizeErr} → Runs (matched_by met) (all_matched n regular r.ws r.found r.state) h j → j ≡ Err e → Runs Q (whole s) h (Err e)
+        by_runs : (s : State) (r : Far (whole s) g a before left) {j : Result (Unit {0}) SizeErr} → Runs (matched_by met) (all_matched regular r.ws r.found r.state) h j → j ≡ Err e → Runs Q (whole s) h (Err e)
         by_runs s r (runs {x = u} v p z stands) is = elim (never_ok u e is) [ ]
         by_runs s r (refused {e = y} p) is = subst (λ z. Runs Q (whole s) h z) (other_err C (size_err.Refused y) e is) (refused (end_same s r ∙ end_stop n regular r.ws r.opened r.goes_on r.gives r.later r.found r.state _ p))
         by_runs s r no_memory_left is = subst (λ z. Runs Q (whole s) h z) (other_err C size_err.Memory e is) no_memory_left

@@ -7,7 +7,7 @@ use Rattle.sized_types.specs.Sizes.{Size, Fun}
 use Rattle.fut_sizes.specs.Applications.{Argument, Later, Met, Wanting, applied_frame, is_arrow}
 use Rattle.fut_sizes.specs.Levels.{levels_within}
 use Rattle.fut_sizes.specs.Matching as matching
-use Rattle.fut_sizes.specs.Matching.{Opened, counted, in_opened, inside}
+use Rattle.fut_sizes.specs.Matching.{Opened, counted, in_opened, inside, made_at}
 use Rattle.size_slots.specs.declared.slots.Found.{Found}
 use Rattle.size_slots.specs.Held.{Holds}
 use Rattle.size_arena.specs.Frames.{opened_of}
@@ -27,8 +27,8 @@ pub record Goes (N : Names) (types : Sub) (a : Application) (ws : List Wanting) 
 -- an argument of the application at n goes along an arrow of what the application gives, if that is a function type
 pub data Takes_arrow (N : Names) (types : Sub) (n : ℕ) (a : Argument) (ws : List Wanting) (φ : Opened) (goes_on : Bool) (t : Size) (ls : List Later) (σ : matching.Found) (new : Application) (table : Found) : Result Bool NoMemory → Type 0 where
   arrow_taken : {k : ℕ} {p r : Size} → t ≡ Fun k p r
-      → Goes N types new (ws ++ record { argument = a; opened = inside (applied_frame n σ.next k a) φ; wanted = p } ∷ []) (inside (applied_frame n σ.next k a) φ) (is_arrow r) r (ls ++ record { node = suc n; size = in_opened φ t } ∷ [])
-      → Holds table (counted (suc k + levels_within r) σ) → Takes_arrow N types n a ws φ goes_on t ls σ new table (Ok true)
+      → Goes N types new (ws ++ record { node = n; argument = a; opened = inside (applied_frame n σ.next k a) φ; wanted = p } ∷ []) (inside (applied_frame n σ.next k a) φ) (is_arrow r) r (ls ++ record { node = suc n; size = in_opened φ t } ∷ [])
+      → Holds table (counted (suc k + levels_within r) (made_at n σ)) → Takes_arrow N types n a ws φ goes_on t ls σ new table (Ok true)
   no_arrow_left : is_arrow t ≡ false → Goes N types new ws φ goes_on t ls → Holds table σ → Takes_arrow N types n a ws φ goes_on t ls σ new table (Ok false)
   no_memory_left : {e : NoMemory} → Takes_arrow N types n a ws φ goes_on t ls σ new table (Err e)
 

@@ -8,7 +8,7 @@ use Rattle.fut_typing.specs.Names.{Names}
 use Rattle.sized_types.specs.Sizes.{Free}
 use Rattle.fut_sizes.specs.Agreeing.{Answer}
 use Rattle.fut_sizes.specs.Applications.{Argument, Early, Late, Later, Met, Part, Applied, Waiting, Want, Wanting, is_function}
-use Rattle.fut_sizes.specs.Matching.{Found, data_way, function_way, meet, none_opened, in_opened, read}
+use Rattle.fut_sizes.specs.Matching.{Found, data_way, function_way, made_at, meet, none_opened, in_opened, read}
 use Rattle.fut_sizes.specs.Scopes.{Scope}
 use Rattle.fut_sizes.specs.Sizing.{sized}
 use Rattle.fut_sizes.specs.Steps.{State, Step, give, ask, and_then}
@@ -67,6 +67,7 @@ abbrev pub want_is : wants.Want → Want
 want_is w = record { node = w.node; is_regular = w.is_regular; size = size_of w.size.now }
 
 pub record Wants (N : Names) (types : Sub) (c : wantings.Wanting) (w : Wanting) : Type 0 where
+  pub node : c.node ≡ w.node
   pub argument : Is_argument N types c.argument w.argument
   pub opened : opened_of c.frames.now ≡ w.opened
   pub wanted : size_of c.wanted.now ≡ w.wanted
@@ -83,29 +84,29 @@ laters_of = map later_of
 -- ---- one argument is matched
 
 -- one that is no function
-abbrev pub datum_met : ℕ → Wanting → Found → Answer Found
-datum_met n w σ = one w.argument
+abbrev pub datum_met : Wanting → Found → Answer Found
+datum_met w σ = one w.argument
   where
     one : Argument → Answer Found
-    one (Early at value named t) = cond (is_function t) (Ok σ) (meet n data_way at w.opened w.wanted none_opened t σ)
+    one (Early at value named t) = cond (is_function t) (Ok σ) (meet w.node data_way at w.opened w.wanted none_opened t (made_at w.node σ))
     one (Late at f) = Ok σ
 
 -- one that is a function and sized already
-abbrev pub function_met : ℕ → Bool → Wanting → Found → Answer Found
-function_met n regular w σ = one w.argument
+abbrev pub function_met : Bool → Wanting → Found → Answer Found
+function_met regular w σ = one w.argument
   where
     one : Argument → Answer Found
-    one (Early at value named t) = cond (is_function t) (meet n (function_way regular) at w.opened w.wanted none_opened t σ) (Ok σ)
+    one (Early at value named t) = cond (is_function t) (meet w.node (function_way regular) at w.opened w.wanted none_opened t (made_at w.node σ)) (Ok σ)
     one (Late at f) = Ok σ
 
 -- what is wanted of a lambda
-abbrev pub wish : ℕ → Bool → Wanting → Found → Want
-wish n regular w σ = record { node = n; is_regular = regular; size = read σ (in_opened w.opened w.wanted) }
+abbrev pub wish : Bool → Wanting → Found → Want
+wish regular w σ = record { node = w.node; is_regular = regular; size = read σ (in_opened w.opened w.wanted) }
 
 -- one that is a function, also a lambda, which is sized now
-abbrev pub function_taken : ℕ → Bool → Wanting → Found → Step Found
-function_taken n regular w σ = one w.argument
+abbrev pub function_taken : Bool → Wanting → Found → Step Found
+function_taken regular w σ = one w.argument
   where
     one : Argument → Step Found
-    one (Early at value named t) = ask (function_met n regular w σ)
-    one (Late at f) = and_then (f (Some (wish n regular w σ)) σ) (λ m. give m.found)
+    one (Early at value named t) = ask (function_met regular w σ)
+    one (Late at f) = and_then (f (Some (wish regular w σ)) (made_at w.node σ)) (λ m. give m.found)

@@ -57,6 +57,8 @@ pub struct Want<'a> {
 /// What an application wants of an argument: a sized type in the frames of the function types around it.
 #[derive(Clone, Copy)]
 pub struct Wanting<'a> {
+    /// The node of its application.
+    pub node: u32,
     pub argument: Argument<'a>,
     pub frames: &'a Frames<'a>,
     pub wanted: &'a SizeTree<'a>,

@@ -5,7 +5,7 @@ ghost use Rattle.fut_typing.specs.Names.{Names};
 ghost use Rattle.sized_types.specs.Sizes.{Size};
 ghost use Rattle.fut_sizes.specs.Applications.{Argument as TheArgument, Later as TheLater, Wanting as TheWanting, is_arrow, uses, with_use};
 ghost use Rattle.fut_sizes.specs.Levels.{levels_within};
-ghost use Rattle.fut_sizes.specs.Matching.{Found as Finding, Opened, counted, in_opened, inside, none_opened, read};
+ghost use Rattle.fut_sizes.specs.Matching.{Found as Finding, Opened, counted, in_opened, inside, made_at, none_opened, read};
 ghost use Rattle.size_arena.specs.Frames.{applied_at, opened_of};
 ghost use Rattle.size_arena.specs.Trees.{size_of};
 ghost use Rattle.size_slots.specs.Held.{Held, Holds};
@@ -17,7 +17,7 @@ use crate::matching::opened_read;
 use bumpalo::Bump;
 use fut_scalar::{List, NoMemory};
 use size_arena::{Change, Frame, Frames, Free, SizeTree, changed, past_within};
-use size_slots::Found;
+use size_slots::{Found, made_at};
 use std::alloc::Global;
 
 /// What an application gives: a sized type in the frames of the function types around it.
@@ -116,13 +116,15 @@ fn inside<'a>(
     }
 }
 
-/// The numbers of a function's positions are taken.
-fn count(table: &mut Found<'_>, chosen: u32, to: &SizeTree<'_>) -> Result<(), NoMemory>
-    ensures { (σ : Finding) → Holds table.old σ → IfOk result (λ u. Holds table.new (counted (suc chosen + levels_within (size_of to.now)) σ)) }
+/// The numbers of a function's positions are taken, which its application at a node makes.
+fn count(node: u32, table: &mut Found<'_>, chosen: u32, to: &SizeTree<'_>) -> Result<(), NoMemory>
+    ensures { (σ : Finding) → Holds table.old σ → IfOk result (λ u. Holds table.new (counted (suc chosen + levels_within (size_of to.now)) (made_at node σ))) }
 {
     let value = behind(table.next, chosen as usize)?;
     let met = behind(value, 1)?;
-    table.next = past_within(to, met)?;
+    let next = past_within(to, met)?;
+    made_at(table, node)?;
+    table.next = next;
     Ok(())
 }
 
@@ -138,11 +140,11 @@ fn go_along<'a>(
     bump: &'a Bump,
 ) -> Result<(), NoMemory>
     ensures frames { IfOk result (λ u. opened_of application.new.gives.frames.now ≡ inside (applied_at node table.old.next chosen (early_value argument.now)) (opened_of application.old.gives.frames.now)) }
-    ensures wants { IfOk result (λ u. application.new.wantings ≡ application.old.wantings ++ record { argument = argument.now; frames = application.new.gives.frames; wanted = from.entry } ∷ []) }
+    ensures wants { IfOk result (λ u. application.new.wantings ≡ application.old.wantings ++ record { node = node; argument = argument.now; frames = application.new.gives.frames; wanted = from.entry } ∷ []) }
     ensures later { IfOk result (λ u. laters_of application.new.later ≡ laters_of application.old.later ++ record { node = suc node; size = in_opened (opened_of application.old.gives.frames.now) (size_of application.old.gives.size.now) } ∷ []) }
     ensures gives { IfOk result (λ u. application.new.gives.size ≡ to.entry) }
     ensures goes_on { IfOk result (λ u. application.new.gives.goes_on ≡ is_arrow (size_of to.now)) }
-    ensures counted { (σ : Finding) → Holds table.old σ → IfOk result (λ u. Holds table.new (counted (suc chosen + levels_within (size_of to.now)) σ)) }
+    ensures counted { (σ : Finding) → Holds table.old σ → IfOk result (λ u. Holds table.new (counted (suc chosen + levels_within (size_of to.now)) (made_at node σ))) }
 {
     let frames = inside(
         node,
@@ -160,12 +162,13 @@ fn go_along<'a>(
     )?;
     let number = behind(node, 1)?;
     application.wantings.push(Wanting {
+        node,
         argument: *argument,
         frames,
         wanted: from,
     })?;
     application.later.push(Later { node: number, size })?;
-    count(table, chosen, to)?;
+    count(node, table, chosen, to)?;
     application.gives = Giving {
         frames,
         size: to,

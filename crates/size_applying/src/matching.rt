@@ -3,7 +3,7 @@ ghost use Rattle.std.specs.Prelude.{◌≡◌, List as Items, IfOk};
 ghost use Rattle.fut_types.specs.Types.{Sub};
 ghost use Rattle.fut_typing.specs.Names.{Names};
 ghost use Rattle.fut_sizes.specs.Applications.{Wanting as TheWanting, data_met};
-ghost use Rattle.fut_sizes.specs.Matching.{Found as Finding, in_opened, meet, none_opened, read};
+ghost use Rattle.fut_sizes.specs.Matching.{Found as Finding, in_opened, made_at, meet, none_opened, read};
 ghost use Rattle.size_arena.specs.Frames.{opened_of};
 ghost use Rattle.size_arena.specs.Trees.{size_of};
 ghost use Rattle.size_slots.specs.Held.{Held, Holds, Met, way_of};
@@ -14,7 +14,7 @@ use bumpalo::Bump;
 use fut_scalar::NoMemory;
 use size_arena::{Change, Frames, SizeErr, SizeTree, changed};
 use size_matching::meet;
-use size_slots::{Found, Way, read};
+use size_slots::{Found, Way, made_at, read};
 
 /// A sized type in frames, read.
 #[tactic(auto, using(size_slots::proofs::TakeLaws::held_falls))]
@@ -31,9 +31,8 @@ pub(crate) fn opened_read<'a>(
     read(opened, table, bump)
 }
 
-/// A sized type at a node is matched with what is wanted of it, in this way.
+/// A sized type at a node is matched with what its application wants of it, in this way.
 fn found_meets<'a>(
-    node: u32,
     way: Way,
     at: u32,
     wanting: &Wanting<'a>,
@@ -42,31 +41,33 @@ fn found_meets<'a>(
     bump: &'a Bump,
 ) -> Result<(), SizeErr>
     requires { Held table.old }
-    ensures met { (N : Names) (types : Sub) (w : TheWanting) → Wants N types wanting.now w → (σ : Finding) → Holds table.old σ → Met (meet node (way_of way) at w.opened w.wanted none_opened (size_of size.now) σ) table.new result }
+    ensures met { (N : Names) (types : Sub) (w : TheWanting) → Wants N types wanting.now w → (σ : Finding) → Holds table.old σ → Met (meet w.node (way_of way) at w.opened w.wanted none_opened (size_of size.now) (made_at w.node σ)) table.new result }
     ensures held { IfOk result (λ u. Held table.new) }
 {
-    meet(
-        node,
-        way,
-        at,
-        wanting.wanted,
-        size,
-        wanting.frames,
-        &Frames::Closed,
-        table,
-        bump,
-    )
+    match made_at(table, wanting.node) {
+        Ok(()) => meet(
+            wanting.node,
+            way,
+            at,
+            wanting.wanted,
+            size,
+            wanting.frames,
+            &Frames::Closed,
+            table,
+            bump,
+        ),
+        Err(NoMemory) => Err(SizeErr::Memory),
+    }
 }
 
 /// An argument that is no function is matched. Another is not looked at.
 fn datum_meets<'a>(
-    node: u32,
     wanting: &Wanting<'a>,
     table: &mut Found<'a>,
     bump: &'a Bump,
 ) -> Result<(), SizeErr>
     requires { Held table.old }
-    ensures met { (N : Names) (types : Sub) (w : TheWanting) → Wants N types wanting.now w → (σ : Finding) → Holds table.old σ → Met (datum_met node w σ) table.new result }
+    ensures met { (N : Names) (types : Sub) (w : TheWanting) → Wants N types wanting.now w → (σ : Finding) → Holds table.old σ → Met (datum_met w σ) table.new result }
     ensures held { IfOk result (λ u. Held table.new) }
 {
     match wanting.argument {
@@ -79,27 +80,26 @@ fn datum_meets<'a>(
                 in_result: false,
                 regular: false,
             };
-            found_meets(node, way, at, wanting, size, table, bump)
+            found_meets(way, at, wanting, size, table, bump)
         }
         Argument::Late { .. } => Ok(()),
     }
 }
 
-/// The arguments that are no functions are matched, from left to right, by an application at a node.
+/// The arguments that are no functions are matched, from left to right.
 ///
 /// `Err`: the first refusal, or memory ran out. Then the table is of no account.
 pub fn data_meet<'a>(
-    node: u32,
     wantings: &[Wanting<'a>],
     table: &mut Found<'a>,
     bump: &'a Bump,
 ) -> Result<(), SizeErr>
     requires { Held table.old }
-    ensures met { (N : Names) (types : Sub) (ws : Items TheWanting) → All_want N types wantings.now ws → (σ : Finding) → Holds table.old σ → Met (data_met node ws σ) table.new result }
+    ensures met { (N : Names) (types : Sub) (ws : Items TheWanting) → All_want N types wantings.now ws → (σ : Finding) → Holds table.old σ → Met (data_met ws σ) table.new result }
     ensures held { IfOk result (λ u. Held table.new) }
 {
     for wanting in wantings {
-        match datum_meets(node, wanting, table, bump) {
+        match datum_meets(wanting, table, bump) {
             Ok(()) => {}
             Err(error) => return Err(error),
         }
@@ -111,14 +111,13 @@ pub fn data_meet<'a>(
 ///
 /// `Err`: the first refusal, or memory ran out. Then the table is of no account.
 pub fn function_meets<'a>(
-    node: u32,
     is_regular: bool,
     wanting: &Wanting<'a>,
     table: &mut Found<'a>,
     bump: &'a Bump,
 ) -> Result<(), SizeErr>
     requires { Held table.old }
-    ensures met { (N : Names) (types : Sub) (w : TheWanting) → Wants N types wanting.now w → (σ : Finding) → Holds table.old σ → Met (function_met node is_regular w σ) table.new result }
+    ensures met { (N : Names) (types : Sub) (w : TheWanting) → Wants N types wanting.now w → (σ : Finding) → Holds table.old σ → Met (function_met is_regular w σ) table.new result }
     ensures held { IfOk result (λ u. Held table.new) }
 {
     match wanting.argument {
@@ -129,7 +128,7 @@ pub fn function_meets<'a>(
                     in_result: false,
                     regular: is_regular,
                 };
-                return found_meets(node, way, at, wanting, size, table, bump);
+                return found_meets(way, at, wanting, size, table, bump);
             }
             Ok(())
         }
@@ -137,20 +136,22 @@ pub fn function_meets<'a>(
     }
 }
 
-/// What an application at a node wants of a lambda.
+/// What an application wants of a lambda, which is sized at what it makes.
 pub fn want_of<'a>(
-    node: u32,
     is_regular: bool,
     wanting: &Wanting<'a>,
-    table: &Found<'a>,
+    table: &mut Found<'a>,
     bump: &'a Bump,
 ) -> Result<Want<'a>, NoMemory>
-    requires { Held table.now }
-    ensures { (N : Names) (types : Sub) (w : TheWanting) → Wants N types wanting.now w → (σ : Finding) → Holds table.now σ → IfOk result (λ want. want_is want ≡ wish node is_regular w σ) }
+    requires { Held table.old }
+    ensures wish { (N : Names) (types : Sub) (w : TheWanting) → Wants N types wanting.now w → (σ : Finding) → Holds table.old σ → IfOk result (λ want. want_is want ≡ wish is_regular w σ) }
+    ensures made { (σ : Finding) → Holds table.old σ → IfOk result (λ want. Holds table.new (made_at wanting.now.node σ)) }
+    ensures held { IfOk result (λ want. Held table.new) }
 {
     let size = opened_read(wanting.wanted, wanting.frames, table, bump)?;
+    made_at(table, wanting.node)?;
     Ok(Want {
-        node,
+        node: wanting.node,
         is_regular,
         size,
     })

@@ -41,10 +41,8 @@ fn settled<'a>(
     Ok(made)
 }
 
-/// What a node of an application at another has once all is matched: what is still open in it is chosen again, where it goes on,
-/// or unknown.
+/// What a node of an application has once all is matched: what is still open in it is chosen again, where it goes on, or unknown.
 fn closed_size<'a>(
-    node: u32,
     size: &'a SizeTree<'a>,
     goes_on: bool,
     table: &mut Found<'a>,
@@ -53,18 +51,17 @@ fn closed_size<'a>(
 ) -> Result<&'a SizeTree<'a>, NoMemory>
     requires { Held table.old }
     ensures settled { (σ : Finding) → Holds table.old σ → IfOk result (λ made. Holds table.new (all_settled (size_of size.now) σ)) }
-    ensures closed { (σ : Finding) → Holds table.old σ → IfOk result (λ made. size_of made.now ≡ closed goes_on node (read (all_settled (size_of size.now) σ) (size_of size.now))) }
+    ensures closed { (σ : Finding) → Holds table.old σ → IfOk result (λ made. size_of made.now ≡ closed goes_on (all_settled (size_of size.now) σ).maker (read (all_settled (size_of size.now) σ) (size_of size.now))) }
     ensures held { IfOk result (λ made. Held table.new) }
 {
     let made = settled(size, table, bump)?;
-    let whole = closed(goes_on, node, made, bump, alloc)?;
+    let whole = closed(goes_on, table.makers.as_slice(), made, bump, alloc)?;
     Ok(whole)
 }
 
-/// The sized type of a node within an application at a node is known.
+/// The sized type of a node within an application is known.
 #[tactic(auto, using(size_program::proofs::StepLaws::out_of_memory))]
 fn note_later<'a>(
-    node: u32,
     later: &Later<'a>,
     table: &mut Found<'a>,
     tables: &mut Tables<'a>,
@@ -72,20 +69,19 @@ fn note_later<'a>(
     alloc: Global,
 ) -> Result<(), SizeErr>
     requires { Held table.old }
-    ensures noted { (σ : Finding) → Holds table.old σ → Steps (λ u y. Holds table.new (all_settled (size_of later.now.size.now) σ)) (note later.now.node (quantified node (read (all_settled (size_of later.now.size.now) σ) (size_of later.now.size.now)))) tables.old tables.new result }
+    ensures noted { (σ : Finding) → Holds table.old σ → Steps (λ u y. Holds table.new (all_settled (size_of later.now.size.now) σ)) (note later.now.node (quantified (all_settled (size_of later.now.size.now) σ).maker (read (all_settled (size_of later.now.size.now) σ) (size_of later.now.size.now)))) tables.old tables.new result }
     ensures held { IfOk result (λ u. Held table.new) }
 {
-    match closed_size(node, later.size, true, table, bump, alloc) {
+    match closed_size(later.size, true, table, bump, alloc) {
         Ok(size) => note(tables, later.node, size),
         Err(_) => Err(SizeErr::Memory),
     }
 }
 
-/// The sized types of nodes within an application at a node are known.
+/// The sized types of nodes within an application are known.
 ///
 /// `Err`: memory ran out. Then the table is of no account.
 pub fn note_all<'a>(
-    node: u32,
     later: &[Later<'a>],
     table: &mut Found<'a>,
     tables: &mut Tables<'a>,
@@ -93,10 +89,10 @@ pub fn note_all<'a>(
     alloc: Global,
 ) -> Result<(), SizeErr>
     requires { Held table.old }
-    ensures { (N : Names) (types : Sub) (σ : Finding) → Holds table.old σ → Steps (λ u y. y ≡ u) (all_noted N types node (laters_of later.now) σ) tables.old tables.new result }
+    ensures { (N : Names) (types : Sub) (σ : Finding) → Holds table.old σ → Steps (λ u y. y ≡ u) (all_noted N types (laters_of later.now) σ) tables.old tables.new result }
 {
     for one in later {
-        match note_later(node, one, table, tables, bump, alloc) {
+        match note_later(one, table, tables, bump, alloc) {
             Ok(()) => {}
             Err(error) => return Err(error),
         }
@@ -115,9 +111,9 @@ fn note_whole<'a>(
     alloc: Global,
 ) -> Result<&'a SizeTree<'a>, SizeErr>
     requires { Held table.old }
-    ensures { (N : Names) (types : Sub) (σ : Finding) → Holds table.old σ → Steps (λ t y. y ≡ size_of t.now) (and_then (all_noted N types node (laters_of later.now) σ) (λ z. note node (size_of whole.now))) tables.old tables.new result }
+    ensures { (N : Names) (types : Sub) (σ : Finding) → Holds table.old σ → Steps (λ t y. y ≡ size_of t.now) (and_then (all_noted N types (laters_of later.now) σ) (λ z. note node (size_of whole.now))) tables.old tables.new result }
 {
-    match note_all(node, later, table, tables, bump, alloc) {
+    match note_all(later, table, tables, bump, alloc) {
         Ok(()) => {}
         Err(error) => return Err(error),
     }
@@ -142,7 +138,7 @@ fn note_result<'a>(
     requires { Held table.old }
     ensures { (N : Names) (types : Sub) (σ : Finding) → Holds table.old σ → Steps (λ t y. y ≡ size_of t.now) (met_noted N types node (record { size = size_of size.now; found = σ; later = laters_of later.now; goes_on = goes_on })) tables.old tables.new result }
 {
-    match closed_size(node, size, goes_on, table, bump, alloc) {
+    match closed_size(size, goes_on, table, bump, alloc) {
         Ok(whole) => note_whole(node, whole, later, table, tables, bump, alloc),
         Err(_) => Err(SizeErr::Memory),
     }

@@ -12,7 +12,8 @@ use Rattle.fut_sizes.specs.Matching.{nothing_found, read}
 use Rattle.fut_sizes.specs.Sizing.{finished}
 use Rattle.fut_sizes.specs.Steps.{State, Step, give, ask, and_then, note}
 use Rattle.size_slots.specs.declared.slots.Found.{Found}
-use Rattle.size_slots.specs.Held.{Held, Holds, Fall}
+use Rattle.size_slots.specs.declared.slots.Maker.{Maker}
+use Rattle.size_slots.specs.Held.{Held, Holds, Fall, maker_of}
 use Rattle.size_arena.specs.declared.agreeing.SizeErr.{SizeErr}
 use Rattle.size_arena.specs.declared.trees.SizeTree.{SizeTree}
 use Rattle.size_arena.specs.Answers.{Gives}
@@ -42,9 +43,9 @@ nothing_held table h = (nothing_found, h)
 pub held_falls : (table : Found) → Held table → Fall table.slots
 held_falls table (σ, h) = h.fall
 
-module _ (N : Names) (types : Sub) (n : ℕ) (t settled made : Bor SizeTree) (f g : Tables) (r : size_of settled.now ≡ read (all_settled (size_of t.now) nothing_found) (size_of t.now)) (c : size_of made.now ≡ functions.closed true n (size_of settled.now)) where
+module _ (N : Names) (types : Sub) (n : ℕ) (t settled made : Bor SizeTree) (f g : Tables) (table : Found) (makers : List Maker) (same : makers ≡ table.makers) (held : Holds table (all_settled (size_of t.now) nothing_found)) (r : size_of settled.now ≡ read (all_settled (size_of t.now) nothing_found) (size_of t.now)) (c : size_of made.now ≡ functions.closed true (maker_of makers) (size_of settled.now)) where
   noted_so : (s : State) → note n (size_of made.now) s ≡ finished N types n (whole (size_of t.now)) s
-  noted_so s = ap (λ z. note n z s) (c ∙ ap (functions.closed true n) r) ∙ sym (whole_finished N types n (size_of t.now) s)
+  noted_so s = ap (λ z. note n z s) (c ∙ ap (λ z. functions.closed true (maker_of z) (size_of settled.now)) same ∙ ap (λ (z : ℕ → ℕ). functions.closed true z (size_of settled.now)) (sym held.makers) ∙ ap (functions.closed true (all_settled (size_of t.now) nothing_found).maker) r) ∙ sym (whole_finished N types n (size_of t.now) s)
 
   pub finish_done : (u : Unit {0}) → Steps (λ (u : Unit {0}) (y : Size). y ≡ size_of made.now) (note n (size_of made.now)) f g (Ok u) → Steps tree_is (finished N types n (whole (size_of t.now))) f g (Ok made)
   finish_done u noted = same_step tree_is (note n (size_of made.now)) (finished N types n (whole (size_of t.now))) f g (Ok made) noted_so (weaker (λ (u : Unit {0}) (y : Size). y ≡ size_of made.now) tree_is (note n (size_of made.now)) f g (Ok u) u made refl (λ y e. e) noted)

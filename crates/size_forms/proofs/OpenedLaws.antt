@@ -60,6 +60,6 @@ pub read_nothing : (t : Size) → read nothing_found (in_opened none_opened t) �
 read_nothing t = ap (read nothing_found) (unopened 0 t) ∙ unread t
 
 -- what is applied to nothing, by itself: what is still open is settled
-pub whole_finished : (N : Names) (types : Sub) (n : ℕ) (t : Size) (s : State) → finished N types n (whole t) s ≡ note n (closed true n (read (all_settled t nothing_found) t)) s
+pub whole_finished : (N : Names) (types : Sub) (n : ℕ) (t : Size) (s : State) → finished N types n (whole t) s ≡ note n (closed true (all_settled t nothing_found).maker (read (all_settled t nothing_found) t)) s
 unfolding applied all_matched data_met functions_met
-whole_finished N types n t s = ap (λ z. note n (closed true n (read (all_settled z nothing_found) z)) s) (read_nothing t)
+whole_finished N types n t s = ap (λ z. note n (closed true (all_settled z nothing_found).maker (read (all_settled z nothing_found) z)) s) (read_nothing t)

@@ -33,7 +33,7 @@ pub fn finish_whole<'a>(
     let mut table = nothing_found(alloc);
     settle_all(size, &mut table, bump)?;
     let settled = read(size, &table, bump)?;
-    let made = closed(true, node, settled, bump, alloc)?;
+    let made = closed(true, table.makers.as_slice(), settled, bump, alloc)?;
     note(tables, node, made)?;
     Ok(made)
 }

@@ -32,12 +32,12 @@ pub arrows_memory : (w : matching.Way) (lo k l : ℕ) (r s : Size) (f g h : Foun
 arrows_memory w lo k l r s f g h c o e is opened σ held = go opened is
   where
     go : {o : Result Sides SizeErr} → Opens w lo k l r s f g o → o ≡ Err e → Met (c σ) h (Err e)
-    go (opens {both = b} x y z u n) is = elim (no_open e b (sym is)) [ ]
+    go (opens {both = b} x y z u n v) is = elim (no_open e b (sym is)) [ ]
     go no_memory_opens is = let q : size_err.Memory ≡ e = cc in subst (λ z. Met (c σ) h (Err z)) q no_memory_met
 
 -- the table of function types that are opened holds a substitution as before
 pub opened_held : (w : matching.Way) (lo k l : ℕ) (r s : Size) (f g : Found) (o : Result Sides SizeErr) → Held f → Opens w lo k l r s f g o → IfOk o (λ both. Held g)
-opened_held w lo k l r s f g o h (opens a c e m n) = (counted (frame_numbers k l r s) h.0, counted_held f g h.0 (frame_numbers k l r s) e m n h.1)
+opened_held w lo k l r s f g o h (opens a c e m n v) = (counted (frame_numbers k l r s) h.0, counted_held f g h.0 (frame_numbers k l r s) e m n v h.1)
 opened_held w lo k l r s f g o h no_memory_opens = tt
 
 module _ (lo : ℕ) (w : matching.Way) (at : ℕ) (φ ψ : Opened) where
@@ -110,18 +110,19 @@ module _ (lo : ℕ) (w : matching.Way) (at : ℕ) (φ ψ : Opened) where
   module _ (f g : Found) (k l : ℕ) (p r q s : Size) (t u : Size) (x : t ≡ Fun k p r) (y : u ≡ Fun l q s) (both : Sides) (o : Result Sides SizeErr) (ok : o ≡ Ok both) (opened : Opens w lo k l r s f g o) (χ ω : Opened) (lefts : χ ≡ inside (frame_of both.left) φ) (rights : ω ≡ inside (frame_of both.right) ψ) where
     -- what two openings say of one another
     abbrev Is_open : Type 0
-    Is_open = record { left : χ ≡ inside (left_frame w lo f.next k l s) φ; right : ω ≡ inside (right_frame w lo f.next k l r) ψ; slots : g.slots ≡ f.slots; chosen : g.chosen ≡ f.chosen; next : g.next ≡ frame_numbers k l r s + f.next }
+    Is_open = record { left : χ ≡ inside (left_frame w lo f.next k l s) φ; right : ω ≡ inside (right_frame w lo f.next k l r) ψ; slots : g.slots ≡ f.slots; chosen : g.chosen ≡ f.chosen; next : g.next ≡ frame_numbers k l r s + f.next; makers : g.makers ≡ f.makers }
 
     is_open : Is_open
     is_open = go opened ok
       where
         go : {o : Result Sides SizeErr} → Opens w lo k l r s f g o → o ≡ Ok both → Is_open
-        go (opens {both = b} a c e h n) ok = let is : b ≡ both = cc in record {
+        go (opens {both = b} a c e h n v) ok = let is : b ≡ both = cc in record {
           left = lefts ∙ ap (λ (z : Sides). inside (frame_of z.left) φ) (sym is) ∙ ap (λ (z : ℕ → Dim). inside z φ) a;
           right = rights ∙ ap (λ (z : Sides). inside (frame_of z.right) ψ) (sym is) ∙ ap (λ (z : ℕ → Dim). inside z ψ) c;
           slots = e;
           chosen = h;
           next = n;
+          makers = v;
         }
         go no_memory_opens ok = elim (no_open _ _ ok) [ ]
 
@@ -135,7 +136,7 @@ module _ (lo : ℕ) (w : matching.Way) (at : ℕ) (φ ψ : Opened) where
         ∙ ap (λ (z : Opened). after f.next χ z σ) (sym is_open.right)
 
     now_holds : (σ : matching.Found) → Holds f σ → Holds g (counted (frame_numbers k l r s) σ)
-    now_holds σ held = counted_held f g σ (frame_numbers k l r s) is_open.slots is_open.chosen is_open.next held
+    now_holds σ held = counted_held f g σ (frame_numbers k l r s) is_open.slots is_open.chosen is_open.next is_open.makers held
 
     pub now_held : Held f → Held g
     now_held h = (counted (frame_numbers k l r s) h.0, now_holds h.0 h.1)

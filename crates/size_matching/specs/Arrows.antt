@@ -11,7 +11,7 @@ use Rattle.size_matching.specs.declared.opening.Sides.{Sides}
 
 -- two function types whose callers choose k and l sizes, and which give r and s, are opened: their positions take the next numbers
 pub data Opens (w : Way) (lo k l : ℕ) (r s : Size) (old new : Found) : Result Sides SizeErr → Type 0 where
-  opens : {both : Sides} → frame_of both.left ≡ left_frame w lo old.next k l s → frame_of both.right ≡ right_frame w lo old.next k l r → new.slots ≡ old.slots → new.chosen ≡ old.chosen → new.next ≡ frame_numbers k l r s + old.next → Opens w lo k l r s old new (Ok both)
+  opens : {both : Sides} → frame_of both.left ≡ left_frame w lo old.next k l s → frame_of both.right ≡ right_frame w lo old.next k l r → new.slots ≡ old.slots → new.chosen ≡ old.chosen → new.next ≡ frame_numbers k l r s + old.next → new.makers ≡ old.makers → Opens w lo k l r s old new (Ok both)
   no_memory_opens : Opens w lo k l r s old new (Err size_err.Memory)
 
 -- whether what a found function gives is refused; memory may run out

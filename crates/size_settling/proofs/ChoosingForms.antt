@@ -97,7 +97,7 @@ mutual
   all_same_sizes j no_size = refl
   all_same_sizes j (size_and t ts) = rw (same_sizes j t, all_same_sizes j ts) refl
 
-module _ (c : Choices) (n j : ℕ) (t : Size) where
+module _ (c : Choices) (n : ℕ → ℕ) (j : ℕ) (t : Size) where
   pub ends_as_it_is : (o : Tree_made) → c ≡ choices.Nothing → IfOk o (λ m. size_of m.now ≡ renamed (unknown_slot n) t) → IfOk o (λ m. size_of m.now ≡ renamed (unknown_slot n) (replaced (choices_of c) j t))
   ends_as_it_is (Ok m) is h = h ∙ ap (renamed (unknown_slot n)) (sym (ap (λ (z : Replacing). replaced z j t) (ap choices_of is ∙ nothing_chosen) ∙ same_sizes j t))
   ends_as_it_is (Err x) is h = tt
@@ -108,7 +108,7 @@ module _ (c : Choices) (n j : ℕ) (t : Size) where
 
 pub ruleset ends = (ends_as_it_is, ends_chosen)
 
-module _ (n j : ℕ) (outer : Replacing) where
+module _ (n : ℕ → ℕ) (j : ℕ) (outer : Replacing) where
   ends_so : (t : Size) → is_arrow t ≡ false → chosen_in n outer j t ≡ renamed (unknown_slot n) (replaced outer j t)
   unfolding chosen_in
   ends_so (Hole v) so = refl
@@ -128,7 +128,7 @@ open_kept es fs t u e h is = ap frees_of e ∙ h ∙ ap (sizes_in is_slot) is
 
 pub ruleset opens = (open_kept)
 
-module _ (n j k : ℕ) (p r : Size) (outer : Replacing) where
+module _ (n : ℕ → ℕ) (j k : ℕ) (p r : Size) (outer : Replacing) where
   abbrev arrow_with : List Free → Size
   arrow_with ds = Fun (length ds + k) (replaced (behind k j ds outer) (suc j) p) (chosen_in n (behind k j ds outer) (suc j) r)
 
@@ -149,7 +149,7 @@ module _ (n j k : ℕ) (p r : Size) (outer : Replacing) where
     pub arrow_again : Fun c a b ≡ chosen_in n outer j (Fun k p r)
     arrow_again = parts_are ∙ ap arrow_with (slots ∙ ap (λ z. sizes_in is_slot (replaced outer z p)) inside) ∙ sym arrow_is
 
-module _ (n j : ℕ) (t : SizeTree) (c inner : Choices) where
+module _ (n : ℕ → ℕ) (j : ℕ) (t : SizeTree) (c inner : Choices) where
   pub function_chosen : (height k i m : ℕ) (p r a b : Bor SizeTree) (ds : Bor (List frees.Free)) (outer : Bor Choices) (o : Tree_made) → t ≡ form.Fun height k p r → outer.now ≡ c → inner ≡ choices.Behind j k ds outer
       → i ≡ j + 1 → frees_of ds.now ≡ sizes_in is_slot (replaced (choices_of c) i (size_of p.now)) → m ≡ length (frees_of ds.now) + k
       → size_of a.now ≡ replaced (choices_of inner) i (size_of p.now) → size_of b.now ≡ chosen_in n (choices_of inner) i (size_of r.now)
@@ -162,7 +162,7 @@ module _ (n j : ℕ) (t : SizeTree) (c inner : Choices) where
 
 -- ---- at the outside
 
-module _ (n : ℕ) (t : Size) where
+module _ (n : ℕ → ℕ) (t : Size) where
   pub nothing_quantified : (o : Tree_made) → IfOk o (λ m. size_of m.now ≡ chosen_in n (choices_of choices.Nothing) 0 t) → IfOk o (λ m. size_of m.now ≡ quantified n t)
   unfolding quantified
   nothing_quantified (Ok m) h = h ∙ ap (λ (z : Replacing). chosen_in n z 0 t) nothing_chosen

@@ -108,7 +108,7 @@ module _ (f : Replacing) (keeps : Keeps f) where
     all_stay j no_size h = refl
     all_stay j (size_and t ts) h = ap (λ z. size_and z (all_replaced f j ts)) (stays j t (part_settled t ts h)) ∙ ap (size_and t) (all_stay j ts (rest_settled t ts h))
 
-unknown_keeps : (n : ℕ) → Keeps (renaming (unknown_slot n))
+unknown_keeps : (n : ℕ → ℕ) → Keeps (renaming (unknown_slot n))
 unknown_keeps n i (At (Const c)) so = refl
 unknown_keeps n i (At (Name b)) so = refl
 unknown_keeps n i (At (Own m l)) so = refl
@@ -130,7 +130,7 @@ behind_keeps k j f keeps i d so = ap (chosen_again k [] (i - suc j)) (keeps i d 
 
 -- ---- so nothing is chosen again
 
-module _ (n : ℕ) where
+module _ (n : ℕ → ℕ) where
   data_stays : (f : Replacing) (j : ℕ) (t : Size) → Keeps f → Settled t → renamed (unknown_slot n) (replaced f j t) ≡ t
   data_stays f j t keeps h = ap (renamed (unknown_slot n)) (stays f keeps j t h) ∙ stays (renaming (unknown_slot n)) (unknown_keeps n) 0 t h
 

@@ -7,7 +7,7 @@ use Rattle.sized_types.specs.Sizes.{At, Slot, Variable, Size, Hole, Open, Level,
 use Rattle.fut_sizes.specs.Agreeing.{type_levels, of_type}
 use Rattle.fut_sizes.specs.Applications.{own_type}
 use Rattle.fut_sizes.specs.Matching as matching
-use Rattle.fut_sizes.specs.Matching.{found_size, type_found, counted}
+use Rattle.fut_sizes.specs.Matching.{found_size, type_found, counted, made_at}
 use Rattle.size_slots.specs.declared.slots.Found.{Found}
 use Rattle.size_slots.specs.Held.{Holds}
 use Rattle.size_settling.specs.Settled.{settled_by}
@@ -15,16 +15,19 @@ use Rattle.size_slots.proofs.Renaming.{renamed_alike}
 use Rattle.size_slots.proofs.TakeLaws.{is_form, same_found, counted_held, fixed_twice}
 
 module _ (f g : Found) where
-  pub own_held : (n : ℕ) (v : Variable) (u : Ty) (a b : Size) (mid : Found) (r : Result (Unit {0}) NoMemory) → mid.slots ≡ f.slots → mid.chosen ≡ f.chosen → mid.next ≡ f.next + type_levels u → a ≡ of_type (λ i. At (Slot (f.next + i))) 0 u
+  pub own_held : (n : ℕ) (v : Variable) (u : Ty) (a b : Size) (made mid : Found) (r : Result (Unit {0}) NoMemory) → ((σ : matching.Found) → Holds f σ → Holds made (made_at n σ))
+      → mid.slots ≡ made.slots → mid.chosen ≡ made.chosen → mid.makers ≡ made.makers → mid.next ≡ f.next + type_levels u → a ≡ of_type (λ i. At (Slot (f.next + i))) 0 u
       → ((σ : matching.Found) → Holds f σ → (j : ℕ) → b ≡ replaced (renaming (found_size σ)) j a) → ((σ : matching.Found) → Holds mid σ → renamed (found_size σ) b ≡ b → IfOk r (λ y. Holds g (type_found n v b σ)))
       → (σ : matching.Found) → Holds f σ → IfOk r (λ y. Holds g (own_type n v u σ))
-  own_held n v u a b mid r s c m p q take σ held =
+  own_held n v u a b made mid r makes s c k m p q take σ held =
+      let new : matching.Found = counted (type_levels u) (made_at n σ) in
       let is : b ≡ renamed (found_size σ) (of_type (λ i. At (Slot (σ.next + i))) 0 u) = q σ held 0 ∙ ap (renamed (found_size σ)) (p ∙ ap (λ z. of_type (λ i. At (Slot (z + i))) 0 u) (sym held.next)) in
-      let there : Holds mid (counted (type_levels u) σ) = counted_held f mid σ (type_levels u) s c (omega (arith, m)) held in
-      let stays : renamed (found_size (counted (type_levels u) σ)) b ≡ b =
-      renamed_alike (found_size (counted (type_levels u) σ)) (found_size σ) (same_found σ (counted (type_levels u) σ) (λ j. refl)) b
+      let first : σ.next ≡ made.next = (makes σ held).next in
+      let before : σ.next ≡ f.next = held.next in
+      let there : Holds mid new = counted_held made mid (made_at n σ) (type_levels u) s c (omega (arith, m, first, before)) k (makes σ held) in
+      let stays : renamed (found_size new) b ≡ b = renamed_alike (found_size new) (found_size σ) (same_found σ new (λ j. refl)) b
       ∙ ap (renamed (found_size σ)) is ∙ fixed_twice f σ held (of_type (λ i. At (Slot (σ.next + i))) 0 u) ∙ sym is in
-      subst (λ z. IfOk r (λ y. Holds g (type_found n v z (counted (type_levels u) σ)))) is (take (counted (type_levels u) σ) there stays)
+      subst (λ z. IfOk r (λ y. Holds g (type_found n v z new))) is (take new there stays)
 
 settled_form : (t : Size) (σ : matching.Found) → is_form t ≡ true → settled_by t σ ≡ σ
 settled_form (Hole x) σ so = refl

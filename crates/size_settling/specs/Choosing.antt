@@ -3,6 +3,7 @@ use Rattle.std.specs.Prelude.{ℕ}
 use Rattle.sized_types.specs.Sizes.{Dim, renaming}
 use Rattle.fut_sizes.specs.Functions.{behind, unknown_slot}
 use Rattle.size_making.specs.Placing.{frees_of}
+use Rattle.size_slots.specs.Held.{maker_of}
 use Rattle.size_settling.specs.declared.renewing.Choices.{Choices, Choices-F, fold-Choices}
 use Rattle.size_settling.specs.declared.renewing.Choices.TheOpen as layer
 use Rattle.size_settling.specs.declared.renewing.Renewal.{Renewal}
@@ -20,5 +21,5 @@ unfoldable pub choices_of : Choices → Replacing
 choices_of c = fold-Choices Replacing choices_form c
 
 abbrev pub renewal_of : Renewal → Replacing
-renewal_of (renewal.Unknown n) = renaming (unknown_slot n)
+renewal_of (renewal.Unknown ms) = renaming (unknown_slot (maker_of ms.now))
 renewal_of (renewal.Chosen c) = choices_of c.now

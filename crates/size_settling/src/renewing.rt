@@ -10,6 +10,7 @@ use bumpalo::Bump;
 use bumpalo::collections::into_bump_slice;
 use fut_scalar::NoMemory;
 use size_arena::{Dim, Free, SizeTree, built, function, level, same_free};
+use size_slots::{Maker, maker_of};
 
 /// The sizes that the function types around choose again.
 #[derive(Clone, Copy)]
@@ -28,8 +29,8 @@ pub(crate) enum Choices<'a> {
 /// What becomes of slots.
 #[derive(Clone, Copy)]
 pub(crate) enum Renewal<'a> {
-    /// They are unknown at this node.
-    Unknown(u32),
+    /// They are unknown at the nodes that made them.
+    Unknown(&'a [Maker]),
     /// They are chosen again, those of them that function types around choose.
     Chosen(&'a Choices<'a>),
 }
@@ -134,8 +135,10 @@ fn renewed_dim(renewal: &Renewal<'_>, place: u32, dim: Dim) -> Result<Dim, NoMem
 {
     match renewal {
         Renewal::Chosen(choices) => chosen_dim(choices, place, dim),
-        Renewal::Unknown(node) => match dim {
-            Dim::At(Free::Slot(number)) => Ok(Dim::At(Free::Unknown(*node, number))),
+        Renewal::Unknown(makers) => match dim {
+            Dim::At(Free::Slot(number)) => {
+                Ok(Dim::At(Free::Unknown(maker_of(makers, number), number)))
+            }
             Dim::At(Free::Const(_)) => Ok(dim),
             Dim::At(Free::Name(_)) => Ok(dim),
             Dim::At(Free::Own(_, _)) => Ok(dim),

@@ -10,9 +10,9 @@ use bumpalo::Bump;
 use fut_scalar::NoMemory;
 use size_arena::{SizeTree, TypeTree, Variable};
 use size_making::{Making, of_type, past_type};
-use size_slots::{Found, read, take_type, with_sizes};
+use size_slots::{Found, made_at, read, take_type, with_sizes};
 
-/// A variable of this type that is open gets sizes of its own: slots, by the next numbers.
+/// A variable of this type, which the use at a node opened, gets sizes of its own: slots, by the next numbers.
 fn own_type<'a>(
     node: u32,
     variable: Variable,
@@ -26,6 +26,7 @@ fn own_type<'a>(
     let made = of_type(ty, Making::Slots(table.next), 0, bump)?;
     let size = with_sizes(made, table, bump)?;
     let next = past_type(ty, table.next)?;
+    made_at(table, node)?;
     table.next = next;
     take_type(table, node, variable, size, bump)
 }

@@ -1,5 +1,5 @@
 -- The tables and the substitution, slot by slot.
-use Rattle.std.proofs.Common.{◌≡◌, ℕ, zero, suc, ◌+◌, ◌<◌, ◌≤◌, List, [], ◌∷◌, ◌++◌, length, Bool, true, false, cond, nat_eq, refl, sym, ap, ◌∙◌, arith, eq-eqb, ne_eqb}
+use Rattle.std.proofs.Common.{◌≡◌, ℕ, zero, suc, ◌<◌, ◌≤◌, List, [], ◌∷◌, ◌++◌, length, Bool, true, false, cond, nat_eq, refl, sym, ap, ◌∙◌, arith, eq-eqb, ne_eqb}
 use Rattle.std.specs.Prelude.{slice_set}
 use Rattle.std.proofs.lemmas.Bool.{eqb-true, eqb-false}
 use Rattle.std.proofs.lemmas.List.{get_or-set_same, get_or-set_other}
@@ -13,7 +13,7 @@ use Rattle.size_arena.specs.Trees.{free_of}
 use Rattle.size_slots.specs.declared.slots.Found.{Found}
 use Rattle.size_slots.specs.declared.slots.Slot as slots
 use Rattle.size_slots.specs.declared.slots.Slot.TheVariants as slot
-use Rattle.size_slots.specs.Held.{slot_at, Fall, Follows, Sets, chosen_size, Holds}
+use Rattle.size_slots.specs.Held.{slot_at, Fall, Follows, Sets, chosen_size, maker_of, Holds}
 use Rattle.size_slots.proofs.Renaming.{renamed_twice}
 
 abbrev pub Slots : Type 0
@@ -39,8 +39,8 @@ nothing_open : (m : ℕ) (v : Variable) (u : Ty) → Open m v u ≡ renamed (fou
 unfolding replaced
 nothing_open m v u = refl
 
-pub nothing_held : (f : Found) → f.slots ≡ [] → f.chosen ≡ [] → f.next ≡ 0 → Holds f nothing_found
-nothing_held f s c n = record {
+pub nothing_held : (f : Found) → f.slots ≡ [] → f.chosen ≡ [] → f.next ≡ 0 → f.makers ≡ [] → Holds f nothing_found
+nothing_held f s c n k = record {
   fall = λ i j h. elim (open_taken (free.Slot j) (sym (ap (λ z. slot_at z i) s ∙ none_at i) ∙ h)) [ ];
   sizes = record {
     stays = λ i h. refl;
@@ -49,6 +49,7 @@ nothing_held f s c n = record {
   };
   types = λ m v u. nothing_open m v u ∙ ap (λ z. renamed (found_size nothing_found) (chosen_size z m v u)) (sym c);
   next = sym n;
+  makers = ap maker_of (sym k);
 }
 
 -- ---- slots behind the last are open
@@ -138,14 +139,15 @@ module _ (s t : Slots) (σ : matching.Found) (i : ℕ) (d : frees.Free) (f : Fol
   falls l k j h = fall_put l k j (nat_eq k i) refl h
 
 -- a table whose slot took a size
-pub holds_put : (g h : Found) (σ : matching.Found) (i : ℕ) (d : frees.Free) → Holds g σ → σ.size i ≡ Slot i → found_size σ (free_of d) ≡ free_of d → ((j : ℕ) → free_of d ≡ Slot j → j < i) → Sets g.slots i d h.slots → h.chosen ≡ g.chosen → h.next ≡ g.next
+pub holds_put : (g h : Found) (σ : matching.Found) (i : ℕ) (d : frees.Free) → Holds g σ → σ.size i ≡ Slot i → found_size σ (free_of d) ≡ free_of d → ((j : ℕ) → free_of d ≡ Slot j → j < i) → Sets g.slots i d h.slots → h.chosen ≡ g.chosen → h.next ≡ g.next → h.makers ≡ g.makers
     → Holds h (size_found i (free_of d) σ)
-holds_put g h σ i d held stays fixed below x c n = record {
+holds_put g h σ i d held stays fixed below x c n k = record {
   fall = falls g.slots h.slots σ i d held.sizes stays fixed below x held.fall;
   sizes = follows_put g.slots h.slots σ i d held.sizes stays fixed below x;
   types = λ m v u. ap (renamed (put i (free_of d))) (held.types m v u) ∙ renamed_twice (put i (free_of d)) (found_size σ) (found_size (size_found i (free_of d) σ)) (put_through g.slots h.slots σ i d held.sizes stays fixed below x) (chosen_size g.chosen m v u)
       ∙ ap (λ z. renamed (found_size (size_found i (free_of d) σ)) (chosen_size z m v u)) (sym c);
   next = held.next ∙ sym n;
+  makers = held.makers ∙ ap maker_of (sym k);
 }
 
 -- ---- links are followed

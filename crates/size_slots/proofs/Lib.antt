@@ -4,4 +4,5 @@ pub mod MeetLaws
 pub mod ChoiceLaws
 pub mod ReadLaws
 pub mod FillForms
+pub mod MakerLaws
 pub mod TakeLaws

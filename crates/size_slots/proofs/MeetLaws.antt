@@ -38,9 +38,9 @@ pub ruleset which_slot = (slot_const, slot_name, slot_own, slot_unknown, slot_sl
 
 -- ---- a slot takes a size
 
-pub slot_taken : (g h : Found) (i : ℕ) (d : frees.Free) (σ : matching.Found) → ((j : ℕ) → free_of d ≡ Slot j → j < i) → Sets g.slots i d h.slots → h.chosen ≡ g.chosen → h.next ≡ g.next
+pub slot_taken : (g h : Found) (i : ℕ) (d : frees.Free) (σ : matching.Found) → ((j : ℕ) → free_of d ≡ Slot j → j < i) → Sets g.slots i d h.slots → h.chosen ≡ g.chosen → h.next ≡ g.next → h.makers ≡ g.makers
     → Holds g σ → σ.size i ≡ Slot i → found_size σ (free_of d) ≡ free_of d → Met (Ok (size_found i (free_of d) σ)) h (Ok tt)
-slot_taken g h i d σ below x c n held stays fixed = met (size_found i (free_of d) σ) refl (holds_put g h σ i d held stays fixed below x c n)
+slot_taken g h i d σ below x c n k held stays fixed = met (size_found i (free_of d) σ) refl (holds_put g h σ i d held stays fixed below x c n k)
 
 -- ---- two slots become one
 

@@ -12,7 +12,7 @@ use Rattle.size_arena.specs.declared.agreeing.SizeErr.TheVariants as size_err
 use Rattle.size_arena.specs.Trees.{free_of, variable_of, size_of}
 use Rattle.size_slots.specs.declared.slots.Found.{Found}
 use Rattle.size_slots.specs.declared.slots.Chosen.{Chosen}
-use Rattle.size_slots.specs.Held.{Follows, chosen_or, chosen_size, Filled, Holds, Held, Fall, Met, met, unmet, no_memory_met, takes_formed}
+use Rattle.size_slots.specs.Held.{Follows, maker_of, chosen_or, chosen_size, Filled, Holds, Held, Fall, Met, met, unmet, no_memory_met, takes_formed}
 use Rattle.size_slots.proofs.FillForms.{chosen_behind}
 use Rattle.size_slots.proofs.MeetLaws.{Told, fixed_by}
 use Rattle.size_slots.proofs.Renaming.{renamed_twice, renamed_at, renamed_alike}
@@ -60,24 +60,25 @@ same_found σ τ h (Own n i) = refl
 same_found σ τ h (Unknown n i) = refl
 same_found σ τ h (Slot i) = h i
 
-follows_same : (f g : Found) (σ τ : matching.Found) → g.slots ≡ f.slots → ((i : ℕ) → τ.size i ≡ σ.size i) → Follows f.slots σ → Follows g.slots τ
+pub follows_same : (f g : Found) (σ τ : matching.Found) → g.slots ≡ f.slots → ((i : ℕ) → τ.size i ≡ σ.size i) → Follows f.slots σ → Follows g.slots τ
 follows_same f g σ τ s h x = subst (λ z. Follows z τ) (sym s) (record {
   stays = λ i e. h i ∙ x.stays i e;
   taken = λ i d e. h i ∙ x.taken i d e ∙ sym (same_found σ τ h (free_of d));
   ends = λ i. ap (found_size τ) (h i) ∙ same_found σ τ h (σ.size i) ∙ x.ends i ∙ sym (h i);
 })
 
-pub counted_held : (f g : Found) (σ : matching.Found) (i : ℕ) → g.slots ≡ f.slots → g.chosen ≡ f.chosen → g.next ≡ i + f.next → Holds f σ → Holds g (counted i σ)
-counted_held f g σ i s c n held = record {
+pub counted_held : (f g : Found) (σ : matching.Found) (i : ℕ) → g.slots ≡ f.slots → g.chosen ≡ f.chosen → g.next ≡ i + f.next → g.makers ≡ f.makers → Holds f σ → Holds g (counted i σ)
+counted_held f g σ i s c n k held = record {
   fall = subst Fall (sym s) held.fall;
   sizes = follows_same f g σ (counted i σ) s (λ j. refl) held.sizes;
   types = λ m w t. held.types m w t ∙ sym (renamed_alike (found_size (counted i σ)) (found_size σ) (same_found σ (counted i σ) (λ j. refl)) (chosen_size f.chosen m w t)) ∙ ap (λ z. renamed (found_size (counted i σ)) (chosen_size z m w t)) (sym c);
   next = ap (λ z. i + z) held.next ∙ sym n;
+  makers = held.makers ∙ ap maker_of (sym k);
 }
 
 -- ---- a variable takes a sized type
 
-module _ (f g : Found) (n : ℕ) (v : Variable) (s : Size) (c : Chosen) (mid : List Chosen) (slots : g.slots ≡ f.slots) (next : g.next ≡ f.next) (fills : Filled f.chosen (filled n v s) mid) (chosen : g.chosen ≡ mid ++ c ∷ [])
+module _ (f g : Found) (n : ℕ) (v : Variable) (s : Size) (c : Chosen) (mid : List Chosen) (slots : g.slots ≡ f.slots) (next : g.next ≡ f.next) (makers : g.makers ≡ f.makers) (fills : Filled f.chosen (filled n v s) mid) (chosen : g.chosen ≡ mid ++ c ∷ [])
     (node : c.node ≡ n) (variable : variable_of c.variable ≡ v) (size : size_of c.size.now ≡ s) where
   behind_open : (m : ℕ) (w : Variable) (t : Ty) → chosen_size g.chosen m w t ≡ filled n v s (chosen_size f.chosen m w t)
   unfolding filled
@@ -95,6 +96,7 @@ module _ (f g : Found) (n : ℕ) (v : Variable) (s : Size) (c : Chosen) (mid : L
         ∙ sym (renamed_alike (found_size (type_found n v s σ)) (found_size σ) (same_found σ (type_found n v s σ) (λ j. refl)) (filled n v s (chosen_size f.chosen m w t)))
         ∙ ap (renamed (found_size (type_found n v s σ))) (sym (behind_open m w t));
     next = held.next ∙ sym next;
+    makers = held.makers ∙ ap maker_of (sym makers);
   }
 
 -- ---- what is read stays as it is

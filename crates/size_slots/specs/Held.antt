@@ -1,5 +1,5 @@
 -- What the tables of an application hold of the definition's substitution.
-use Rattle.std.specs.Prelude.{◌≡◌, ◌&&◌, ℕ, ◌<◌, Bool, cond, List, [], ◌∷◌, Option, Some, None, Result, Ok, Err, slice_index_or}
+use Rattle.std.specs.Prelude.{◌≡◌, ◌&&◌, ℕ, ◌<◌, Bool, cond, nat_lt, List, [], ◌∷◌, Option, Some, None, Result, Ok, Err, slice_index_or}
 use Rattle.std.specs.Borrow.{Bor}
 use Rattle.fut_types.specs.Types.{Ty}
 use Rattle.sized_types.specs.Sizes.{Free, Slot, Variable, Size, Open, renamed, has}
@@ -17,6 +17,7 @@ use Rattle.size_arena.specs.Trees.{free_of, variable_of, size_of}
 use Rattle.size_slots.specs.declared.meeting.Way as ways
 use Rattle.size_slots.specs.declared.slots.Chosen.{Chosen}
 use Rattle.size_slots.specs.declared.slots.Found.{Found}
+use Rattle.size_slots.specs.declared.slots.Maker.{Maker}
 use Rattle.size_slots.specs.declared.slots.Slot as slots
 use Rattle.size_slots.specs.declared.slots.Slot.TheVariants as slot
 
@@ -67,13 +68,27 @@ pub data Choice (cs : List Chosen) (n : ℕ) (v : Variable) : Option (Bor SizeTr
   chosen : {t : Bor SizeTree} → ((u : Ty) → chosen_size cs n v u ≡ size_of t.now) → Choice cs n v (Some t)
   unchosen : ((u : Ty) → chosen_size cs n v u ≡ Open n v u) → Choice cs n v None
 
--- ---- both
+-- ---- makers
+
+-- as before, but from a number on by another node
+abbrev pub since : (ℕ → ℕ) → Maker → ℕ → ℕ
+since maker m i = cond (nat_lt i m.first) (maker i) m.node
+
+abbrev pub makers_since : (ℕ → ℕ) → List Maker → ℕ → ℕ
+makers_since maker [] = maker
+makers_since maker (m ∷ ms) = makers_since (since maker m) ms
+
+abbrev pub maker_of : List Maker → ℕ → ℕ
+maker_of = makers_since (λ i. 0)
+
+-- ---- all
 
 pub record Holds (f : Found) (σ : matching.Found) : Type 0 where
   pub fall : Fall f.slots
   pub sizes : Follows f.slots σ
   pub types : (n : ℕ) (v : Variable) (u : Ty) → σ.type n v u ≡ renamed (found_size σ) (chosen_size f.chosen n v u)
   pub next : σ.next ≡ f.next
+  pub makers : σ.maker ≡ maker_of f.makers
 
 -- a table that holds some substitution
 abbrev pub Held : Found → Type 0

@@ -24,14 +24,23 @@ pub struct Chosen<'a> {
     pub size: &'a SizeTree<'a>,
 }
 
+/// From a number on, numbers are made at a node.
+#[derive(Clone, Copy)]
+pub struct Maker {
+    pub first: u32,
+    pub node: u32,
+}
+
 /// What an application has found.
 #[derive(Drop)]
 pub struct Found<'a> {
     /// By their numbers; those behind the last are open.
     pub slots: List<Slot>,
     pub chosen: List<Chosen<'a>>,
-    /// The next number of a slot, and of an unknown of the application's node.
+    /// The next number of a slot, and of an unknown of an application's node.
     pub next: u32,
+    /// By the numbers from which on they count: of two, the later one.
+    pub makers: List<Maker>,
 }
 
 /// What an application has found before it meets anything.
@@ -43,6 +52,7 @@ pub fn nothing_found<'a>(alloc: Global) -> Found<'a>
         slots: List::new(alloc),
         chosen: List::new(alloc),
         next: 0,
+        makers: List::new(alloc),
     }
 }
 

@@ -8,14 +8,14 @@ use Rattle.fut_flat.specs.Numbers.{all_pattern_numbers}
 use Rattle.fut_types.specs.Types.{Sub}
 use Rattle.fut_typing.specs.Names.{Names}
 use Rattle.sized_types.specs.Sizes.{Size}
-use Rattle.fut_sizes.specs.Agreeing.{Answer, leaving, then_do}
+use Rattle.fut_sizes.specs.Agreeing.{Answer, then_do}
 use Rattle.fut_sizes.specs.Applications.{Want, Met}
 use Rattle.fut_sizes.specs.Functions as functions
 use Rattle.fut_sizes.specs.Functions.{function_size, unchosen}
 use Rattle.fut_sizes.specs.Matching as matching
 use Rattle.fut_sizes.specs.Matching.{function_way, meet, none_opened}
 use Rattle.fut_sizes.specs.Scopes.{Scope}
-use Rattle.fut_sizes.specs.Sizing.{Entered, wanted_size, all_part_names, all_entered, none_left, parameters_noted, matched}
+use Rattle.fut_sizes.specs.Sizing.{Entered, wanted_size, all_part_names, all_entered, leaving_function, none_left, parameters_noted, matched}
 use Rattle.fut_sizes.specs.Steps.{Step, give, ask, and_then, note}
 use Rattle.size_arena.specs.declared.agreeing.Refusal.TheVariants as refusal
 use Rattle.size_arena.specs.declared.agreeing.SizeErr.{SizeErr}
@@ -156,15 +156,22 @@ module _ (N : Names) (types : Sub) (ps : Patterns Ref BindId) (bs : List ℕ) (l
   abbrev the_end : Step Met
   the_end = lambda_ended N types ps bs lo end w E body
 
-  left_there : {k : Result (Bor SizeTree) SizeErr} → Gives (leaving lo names body) k → Answers (λ (t : Bor SizeTree) y. y ≡ size_of t.now) (leaving lo (all_part_names ps) body) k
-  left_there {k = k} x = subst (λ z. Answers (λ (t : Bor SizeTree) y. y ≡ size_of t.now) (leaving lo z body) k) named (tree_answers (leaving lo names body) k x)
+  abbrev Leaves : Result (Bor SizeTree) SizeErr → Type 0
+  Leaves = Gives (leaving_function lo names (takings_of b.parameters.now) body)
 
-  pub leaving_refused : (x : SizeErr) (g : Tables) → Gives (leaving lo names body) (Err x) → Steps (Lambda_met table) the_end f g (Err x)
-  leaving_refused x g leaves = ask_stop (λ (t : Bor SizeTree) y. y ≡ size_of t.now) (Lambda_met table) (leaving lo (all_part_names ps) body) own_next f g (Err x) x refl (left_there leaves)
+  abbrev the_left : Answer Size
+  the_left = leaving_function lo (all_part_names ps) E.parameters body
 
-  module _ (r : Bor SizeTree) (leaves : Gives (leaving lo names body) (Ok r)) (own : Bor SizeTree) (made : size_of own.now ≡ function_size bs lo end (takings_of b.parameters.now) (size_of r.now)) where
+  left_there : {k : Result (Bor SizeTree) SizeErr} → Leaves k → Answers (λ (t : Bor SizeTree) y. y ≡ size_of t.now) the_left k
+  left_there {k = k} x = subst (λ z. Answers (λ (t : Bor SizeTree) y. y ≡ size_of t.now) (leaving_function lo (all_part_names ps) z body) k) (sym so.parameters)
+      (subst (λ z. Answers (λ (t : Bor SizeTree) y. y ≡ size_of t.now) (leaving_function lo z (takings_of b.parameters.now) body) k) named (tree_answers (leaving_function lo names (takings_of b.parameters.now) body) k x))
+
+  pub leaving_refused : (x : SizeErr) (g : Tables) → Leaves (Err x) → Steps (Lambda_met table) the_end f g (Err x)
+  leaving_refused x g leaves = ask_stop (λ (t : Bor SizeTree) y. y ≡ size_of t.now) (Lambda_met table) the_left own_next f g (Err x) x refl (left_there leaves)
+
+  module _ (r : Bor SizeTree) (leaves : Leaves (Ok r)) (own : Bor SizeTree) (made : size_of own.now ≡ function_size bs lo end (takings_of b.parameters.now) (size_of r.now)) where
     left_then : (g : Tables) (k : Result (Bor SizeTree) SizeErr) → Steps (Lambda_met table) (and_then (note lo (size_of own.now)) (λ u. ask (matched N types lo w u E.found))) f g k → Steps (Lambda_met table) the_end f g k
-    left_then g k rest = ask_then (λ (t : Bor SizeTree) y. y ≡ size_of t.now) (Lambda_met table) (leaving lo (all_part_names ps) body) own_next f g (Ok r) r k refl (left_there leaves)
+    left_then g k rest = ask_then (λ (t : Bor SizeTree) y. y ≡ size_of t.now) (Lambda_met table) the_left own_next f g (Ok r) r k refl (left_there leaves)
         (λ y same. subst (λ z. Steps (Lambda_met table) (and_then (note lo z) (λ u. ask (matched N types lo w u E.found))) f g k) (made ∙ ap (λ z. function_size bs lo end z (size_of r.now)) (sym so.parameters) ∙ ap (function_size bs lo end E.parameters) (sym same)) rest)
 
     pub own_not_noted : (x : SizeErr) (g h : Tables) → Steps (λ (u : Unit {0}) y. y ≡ size_of own.now) (note lo (size_of own.now)) f g (Err x) → Steps (Lambda_met table) the_end f h (Err x)

@@ -10,6 +10,7 @@ pub mod ComposedLaws
 pub mod SpineForms
 pub mod PartForms
 pub mod LambdaForms
+pub mod LeavingForms
 pub mod Walking
 pub mod MeetLaws
 pub mod ApplyingLaws

@@ -35,8 +35,8 @@ left_behind [] i left l all less one = absurd (omega (arith, l))
 left_behind (x ∷ xs) zero left l all less one = omega (arith, all, one)
 left_behind (x ∷ xs) (suc i) left l all less one = left_behind xs i left (omega (arith, l)) (omega (arith, all)) less one
 
-pub next_functions : (N : Names) (types : Sub) (n : ℕ) (regular : Bool) (whole : Step matching.Found) (f g : Tables) (table : Found) (cs : List wantings.Wanting) (i : ℕ) → Functions_left N types n regular whole f g table (drop (suc i) cs) → Functions_left N types n regular whole f g table (drop (i + 1) cs)
-next_functions N types n regular whole f g table cs i so_far = subst (λ j. Functions_left N types n regular whole f g table (drop j cs)) (sym (add-one i)) so_far
+pub next_functions : (N : Names) (types : Sub) (regular : Bool) (whole : Step matching.Found) (f g : Tables) (table : Found) (cs : List wantings.Wanting) (i : ℕ) → Functions_left N types regular whole f g table (drop (suc i) cs) → Functions_left N types regular whole f g table (drop (i + 1) cs)
+next_functions N types regular whole f g table cs i so_far = subst (λ j. Functions_left N types regular whole f g table (drop j cs)) (sym (add-one i)) so_far
 
 pub next_way : (N : Names) (types : Sub) (n : ℕ) (regular : Bool) (whole : Step Met) (f g : Tables) (a : Application) (table : Found) (xs : List arguments.Argument) (i : ℕ) → Under_way N types n regular whole f g a table (drop (suc i) xs) → Under_way N types n regular whole f g a table (drop (i + 1) xs)
 next_way N types n regular whole f g a table xs i so_far = subst (λ j. Under_way N types n regular whole f g a table (drop j xs)) (sym (add-one i)) so_far

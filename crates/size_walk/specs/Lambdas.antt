@@ -7,12 +7,11 @@ use Rattle.fut_flat.specs.Numbers.{all_pattern_numbers}
 use Rattle.fut_types.specs.Types.{Sub}
 use Rattle.fut_typing.specs.Names.{Names}
 use Rattle.sized_types.specs.Sizes.{Size}
-use Rattle.fut_sizes.specs.Agreeing.{leaving}
 use Rattle.fut_sizes.specs.Applications.{Want, Met}
 use Rattle.fut_sizes.specs.Functions.{function_size, unchosen}
 use Rattle.fut_sizes.specs.Matching as matching
 use Rattle.fut_sizes.specs.Scopes.{Scope}
-use Rattle.fut_sizes.specs.Sizing.{Entered, wanted_size, all_part_names, all_entered, none_left, parameters_noted, matched}
+use Rattle.fut_sizes.specs.Sizing.{Entered, wanted_size, all_part_names, all_entered, leaving_function, none_left, parameters_noted, matched}
 use Rattle.fut_sizes.specs.Steps.{Step, give, ask, and_then, note}
 use Rattle.size_functions.specs.Takings.{takings_of}
 use Rattle.size_program.specs.Tables.{In_scope}
@@ -31,7 +30,7 @@ module _ (N : Names) (types : Sub) (ps : Patterns Ref BindId) (bs : List ℕ) (l
   -- its body, which ends before a number, has this sized type
   abbrev pub lambda_ended : ℕ → Option Want → Entered → Size → Step Met
   lambda_ended end w E body =
-      and_then (ask (leaving lo (all_part_names ps) body)) (λ r.
+      and_then (ask (leaving_function lo (all_part_names ps) E.parameters body)) (λ r.
       and_then (note lo (function_size bs lo end E.parameters r)) (λ own. ask (matched N types lo w own E.found)))
 
 -- what code has of parameters that are entered

@@ -6,11 +6,12 @@ ghost use Rattle.fut_flat.specs.Numbers.{all_pattern_numbers};
 ghost use Rattle.fut_sizes.specs.Functions.{Taking as TheTaking, unchosen};
 ghost use Rattle.fut_sizes.specs.Matching.{Found as Finding};
 ghost use Rattle.fut_sizes.specs.Scopes.{Scope};
-ghost use Rattle.fut_sizes.specs.Sizing.{Entered as Entering, matched, none_left, wanted_size};
+ghost use Rattle.fut_sizes.specs.Sizing.{Entered as Entering, leaving_function, matched, none_left, wanted_size};
 ghost use Rattle.fut_types.specs.Shapes.{IsTable};
 ghost use Rattle.fut_types.specs.Types.{Sub};
 ghost use Rattle.fut_typing.specs.Names.{Names};
 ghost use Rattle.alias_parts.specs.Known.{Knows};
+ghost use Rattle.size_arena.specs.Answers.{Gives};
 ghost use Rattle.size_arena.specs.Trees.{size_of};
 ghost use Rattle.size_functions.specs.Takings.{takings_of};
 ghost use Rattle.size_program.specs.Answers.{Answers, Steps};
@@ -25,7 +26,7 @@ use bumpalo::Bump;
 use flat_numbers::{after, after_patterns};
 use fut_flat::{Exp, Pat};
 use size_applying::Want;
-use size_arena::{Frames, Refusal, SizeErr, SizeTree, leaving};
+use size_arena::{Frames, Property, Refusal, SizeErr, SizeTree, has, leaving};
 use size_functions::{Taking, function_size, unchosen};
 use size_matching::meet;
 use size_patterns::{enter_all, note_parameters, part_names};
@@ -158,6 +159,27 @@ fn match_lambda<'a>(
     }
 }
 
+/// What the body of a lambda at a node gives leaves it, and with it the names of parts of its arguments.
+///
+/// `Err`: one of them stands in the sized type of a parameter, or in what a function takes that is given; or memory ran out.
+#[tactic(auto, using(crate::proofs::LeavingForms::leaves_parts))]
+fn leave_parts<'a>(
+    node: u32,
+    names: &[u32],
+    parameters: &[Taking<'a>],
+    body: &'a SizeTree<'a>,
+    bump: &'a Bump,
+) -> Result<&'a SizeTree<'a>, SizeErr>
+    ensures { Gives (leaving_function node names.now (takings_of parameters.now) (size_of body.now)) result }
+{
+    for parameter in parameters {
+        if has(parameter.size, &Property::Names(names)) {
+            return Err(SizeErr::Refused(Refusal::Escapes(node)));
+        }
+    }
+    leaving(node, names, body, bump)
+}
+
 /// Leaves a lambda whose body has this sized type and ends before a number.
 #[tactic(auto, using(crate::proofs::LambdaForms::memory_runs_out))]
 pub(crate) fn end_lambda<'a>(
@@ -177,7 +199,7 @@ pub(crate) fn end_lambda<'a>(
     ensures held { IfOk result (λ t. Held table.new) }
 {
     let names = part_names(pats, bump)?;
-    let given = leaving(lambda.node, names, body, bump)?;
+    let given = leave_parts(lambda.node, names, begun.parameters, body, bump)?;
     let own = function_size(
         lambda.heads,
         lambda.node,

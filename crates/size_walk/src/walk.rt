@@ -448,7 +448,6 @@ fn apply<'a>(
     }
     match_all(
         is_regular,
-        node,
         application.wantings.as_slice(),
         table,
         site,
@@ -491,7 +490,6 @@ fn take<'a>(
     }
     match_all(
         is_regular,
-        node,
         application.wantings.as_slice(),
         table,
         site,
@@ -510,7 +508,6 @@ fn take<'a>(
 #[tactic(auto, using(crate::proofs::Walking::nothing))]
 fn match_all<'a>(
     is_regular: bool,
-    node: u32,
     wantings: &[Wanting<'a>],
     table: &mut Found<'a>,
     site: &Site<'a>,
@@ -520,11 +517,11 @@ fn match_all<'a>(
 ) -> Result<(), SizeErr>
     requires table { IsTable site.now.program.names.table.now }
     requires held { Held table.old }
-    ensures met { (N : Names) → Knows site.now.program.names N → (ws : Items TheWanting) → All_want N (types_at site.now) wantings.now ws → (σ : Finding) → Holds table.old σ → Steps (matched_by table.new) (all_matched node is_regular ws σ) tables.old tables.new result }
+    ensures met { (N : Names) → Knows site.now.program.names N → (ws : Items TheWanting) → All_want N (types_at site.now) wantings.now ws → (σ : Finding) → Holds table.old σ → Steps (matched_by table.new) (all_matched is_regular ws σ) tables.old tables.new result }
     ensures held { IfOk result (λ u. Held table.new) }
 {
-    data_meet(node, wantings, table, bump)?;
-    match_functions(is_regular, node, wantings, table, site, tables, bump, alloc)
+    data_meet(wantings, table, bump)?;
+    match_functions(is_regular, wantings, table, site, tables, bump, alloc)
 }
 
 // Then of functions, from left to right.
@@ -532,7 +529,6 @@ fn match_all<'a>(
 #[tactic(auto, using(crate::proofs::Walking::nothing))]
 fn match_functions<'a>(
     is_regular: bool,
-    node: u32,
     wantings: &[Wanting<'a>],
     table: &mut Found<'a>,
     site: &Site<'a>,
@@ -542,11 +538,11 @@ fn match_functions<'a>(
 ) -> Result<(), SizeErr>
     requires table { IsTable site.now.program.names.table.now }
     requires held { Held table.old }
-    ensures met { (N : Names) → Knows site.now.program.names N → (ws : Items TheWanting) → All_want N (types_at site.now) wantings.now ws → (σ : Finding) → Holds table.old σ → Steps (matched_by table.new) (functions_met node is_regular ws σ) tables.old tables.new result }
+    ensures met { (N : Names) → Knows site.now.program.names N → (ws : Items TheWanting) → All_want N (types_at site.now) wantings.now ws → (σ : Finding) → Holds table.old σ → Steps (matched_by table.new) (functions_met is_regular ws σ) tables.old tables.new result }
     ensures held { IfOk result (λ u. Held table.new) }
 {
     for wanting in wantings {
-        match_function(is_regular, node, wanting, table, site, tables, bump, alloc)?;
+        match_function(is_regular, wanting, table, site, tables, bump, alloc)?;
     }
     Ok(())
 }
@@ -556,7 +552,6 @@ fn match_functions<'a>(
 #[tactic(auto, using(crate::proofs::Walking::nothing))]
 fn match_function<'a>(
     is_regular: bool,
-    node: u32,
     wanting: &Wanting<'a>,
     table: &mut Found<'a>,
     site: &Site<'a>,
@@ -566,17 +561,17 @@ fn match_function<'a>(
 ) -> Result<(), SizeErr>
     requires table { IsTable site.now.program.names.table.now }
     requires held { Held table.old }
-    ensures met { (N : Names) → Knows site.now.program.names N → (w : TheWanting) → Wants N (types_at site.now) wanting.now w → (σ : Finding) → Holds table.old σ → Steps (matched_by table.new) (function_taken node is_regular w σ) tables.old tables.new result }
+    ensures met { (N : Names) → Knows site.now.program.names N → (w : TheWanting) → Wants N (types_at site.now) wanting.now w → (σ : Finding) → Holds table.old σ → Steps (matched_by table.new) (function_taken is_regular w σ) tables.old tables.new result }
     ensures held { IfOk result (λ u. Held table.new) }
 {
     match wanting.argument {
-        Argument::Early { .. } => function_meets(node, is_regular, wanting, table, bump),
+        Argument::Early { .. } => function_meets(is_regular, wanting, table, bump),
         Argument::Late {
             exp,
             node: own,
             names,
         } => {
-            let Ok(want) = want_of(node, is_regular, wanting, table, bump) else {
+            let Ok(want) = want_of(is_regular, wanting, table, bump) else {
                 return Err(SizeErr::Memory);
             };
             let want = Some(want);

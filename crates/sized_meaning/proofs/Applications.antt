@@ -82,11 +82,11 @@ module _ (N : Names) (types : Sub) (τ : Meant) (W : World) (S : Sound N types W
   abbrev pub Worth_of : ℕ → ℕ → Context → FlatEnv → Free → FlatValue → Type 0
   Worth_of lo i G env d v = (d ≡ Unknown lo i) ⊎ (((x : ℕ) × (d ≡ Name x) × (G.sizes x ≡ Some i64_size) × (flat_look W.tops env x ≡ Val v)) ⊎ ((c : ℕ) × (d ≡ Const c) × (word v ≡ c)))
 
-  literal_type : Option IntType → ℕ → IntType
+  pub literal_type : Option IntType → ℕ → IntType
   literal_type None mid = W.integer_at mid
   literal_type (Some i) mid = i
 
-  literal_value : (c : ℕ) (t : Option IntType) (mark : Place) (mid : ℕ) (env : FlatEnv) → Gives (λ v. v ≡ Scalar_value (integer (literal_type t mid) (pos c))) (means W (Evaluate env mid (Strict (Integer c t) mark no_term)))
+  pub literal_value : (c : ℕ) (t : Option IntType) (mark : Place) (mid : ℕ) (env : FlatEnv) → Gives (λ v. v ≡ Scalar_value (integer (literal_type t mid) (pos c))) (means W (Evaluate env mid (Strict (Integer c t) mark no_term)))
   unfolding flat_names operate coerced literal_type
   literal_value c None mark mid env = evaluates _ (Evaluate env mid (Strict (Integer c None) mark no_term))
       (gives_then (λ vs. vs ≡ []) (λ v. v ≡ Scalar_value (integer (W.integer_at mid) (pos c))) _ _ (gives_exact _ 0 (Val []) refl)
@@ -100,7 +100,7 @@ module _ (N : Names) (types : Sub) (τ : Meant) (W : World) (S : Sound N types W
   literal_typed c None mark mid p e = let z : scalar_ty (sort.Int I64) ≡ scalar_ty (sort.Int (W.integer_at mid)) = ap erased (sym e) ∙ S.typed mid ∙ p.0 in cc
   literal_typed c (Some i) mark mid p e = let z : scalar_ty (sort.Int I64) ≡ scalar_ty (sort.Int i) = ap erased (sym e) ∙ S.typed mid ∙ p.0 in cc
 
-  literal_word : (c : ℕ) (i : IntType) (v : FlatValue) → v ≡ Scalar_value (integer i (pos c)) → i ≡ I64 → c < 2 ^ 63 → word v ≡ c
+  pub literal_word : (c : ℕ) (i : IntType) (v : FlatValue) → v ≡ Scalar_value (integer i (pos c)) → i ≡ I64 → c < 2 ^ 63 → word v ≡ c
   unfolding word
   literal_word c i v e q l = ap word e ∙ ap (λ j. word (Scalar_value (integer j (pos c)))) q ∙ ap (λ z. count_of (integer_of I64 z)) (mod-eq_of_lt (let z : c < 2 ^ 64 = omega (arith, l) in z)) ∙ ap count_of (to_z_pos w64 c l)
 

@@ -6,7 +6,8 @@ use Rattle.fut_types.specs.declared.Head.TheVariants as head
 use Rattle.fut_typing.specs.Names.{Names}
 use Rattle.fut_value.specs.Data.{Shape, Scalar_shape, Tuple_shape, Record_shape, Array_shape, Shapes, no_shape, shape_and, Named_shapes, Datum, Scalar_datum, Tuple_datum, Record_datum, Array_datum, Datums, no_datum, datum_and, Named_datums, no_named, named_and, shape_of, shapes_of, named_shapes_of}
 use Rattle.fut_meaning.specs.Datums.{datum_of, datums_of, named_datums_of}
-use Rattle.fut_meaning.specs.Found.{Sizing, field_shape}
+use Rattle.fut_meaning.specs.Found.{Sizing}
+use Rattle.fut_meaning.specs.Places.{field_shape}
 use Rattle.fut_meaning.specs.Flats.{FlatValue}
 use Rattle.fut_meaning.specs.Outcomes.{Out, Val, Fail, Wrong, and_then, Rel}
 use Rattle.fut_meaning.specs.Values.{Scalar_value, Tuple_value, Record_value, Array_value, Closure, Primitive_value, no_value, value_and, no_field, field_and, field}

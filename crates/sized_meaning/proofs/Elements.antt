@@ -13,7 +13,8 @@ use Rattle.fut_meaning.specs.Arrays.{fresh, array, made, Make_array}
 use Rattle.fut_meaning.specs.Datums.{as_value, datum_of, all_data}
 use Rattle.fut_meaning.specs.Flats.{FlatValue, FlatEnv, flat_names}
 use Rattle.fut_meaning.specs.Found.{Found, number, shape_found, told_shape}
-use Rattle.fut_meaning.specs.Telling.{found, row_of}
+use Rattle.fut_meaning.specs.Telling.{found}
+use Rattle.fut_meaning.specs.Places.{row_of}
 use Rattle.fut_meaning.specs.Meaning.{row_told, fits_type, Of_literal}
 use Rattle.fut_meaning.specs.Operations.{operated}
 use Rattle.fut_meaning.specs.Outcomes.{Val, gives, the, Then}

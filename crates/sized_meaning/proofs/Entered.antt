@@ -1,5 +1,5 @@
 -- What is found under names is right where what was entered is.
-use Rattle.std.proofs.Common.{◌≡◌, ℕ, suc, Bool, true, false, ◌&&◌, cond, nat_eq, List, [], ◌∷◌, Option, Some, None, refl, sym, ap, ◌∙◌, subst, eqb-true}
+use Rattle.std.proofs.Common.{◌≡◌, ℕ, suc, Bool, true, false, ◌&&◌, cond, nat_eq, List, [], ◌∷◌, Option, Some, refl, sym, ap, ◌∙◌, subst, eqb-true}
 use Rattle.std.specs.Prelude.{ℤ, pos, negsuc}
 use Rattle.std.specs.Str.{bytes_eq}
 use Rattle.fut_ast.specs.Sorts.{Text}
@@ -8,8 +8,9 @@ use Rattle.fut_typing.specs.Names.{Names, AreNames}
 use Rattle.fut_value.specs.Data.{Shape, Scalar_shape, Tuple_shape, Record_shape, Array_shape, Shapes, no_shape, shape_and, Named_shapes, named_shape_and, Datum, Tuple_datum, Record_datum, Datums, datum_and, Named_datums, named_and, shape_of, shapes_of, named_shapes_of}
 use Rattle.fut_meaning.specs.Accessors.{count_of}
 use Rattle.fut_meaning.specs.Datums.{datum_of, datums_of, named_datums_of}
-use Rattle.fut_meaning.specs.Found.{field_shape, or_unmet, is_integer, agrees, if_field, has_sizes, have_sizes, named_sizes, worth, Sizing, Found, as_integer, size_in, type_in, named_worth, with_worth, with_data, with_results, if_told, chosen_shape, number, shape_found, count, told_shape}
-use Rattle.fut_meaning.specs.Telling.{worth_of, value_shape, value_shapes, field_shapes, found, tells, row_of}
+use Rattle.fut_meaning.specs.Found.{is_integer, agrees, if_field, has_sizes, have_sizes, named_sizes, worth, Sizing, Found, is_number, named_worth, with_worth, with_data, with_results, if_told, chosen_shape, number, shape_found, count, told_shape}
+use Rattle.fut_meaning.specs.Telling.{worth_of, value_shape, value_shapes, field_shapes, found, tells}
+use Rattle.fut_meaning.specs.Places.{size_place, type_place, size_of, at_path, field_shape, or_unmet, row_of}
 use Rattle.fut_meaning.specs.Flats.{FlatValue, FlatEnv}
 use Rattle.fut_meaning.specs.Meaning.{row_found, sizes_agree, row_told, fits_type, Of_literal}
 use Rattle.fut_meaning.specs.Outcomes.{Out, Val, Wrong, and_then, Rel}
@@ -25,7 +26,7 @@ use Rattle.sized_meaning.specs.Claims.{calls_of}
 use Rattle.sized_meaning.specs.Finding.{Fields_from, Fields_are, One_kind_each, As_many, Formed, All_formed, Reads, All_read, Named_read}
 use Rattle.sized_meaning.specs.Entered.{none_chosen, All_entered, Right_found, FoundUnderNamesIsRight, Is_found, Type_is_found, LiteralRowsAreRight, CoercedHasItsSizes, ValuesRead}
 use Rattle.sized_meaning.proofs.Reading.{each_as}
-use Rattle.sized_meaning.proofs.Finding.{some_same, none_no, first_or, same_text, data_reads, size_right, type_right, told_right, exact_kinds}
+use Rattle.sized_meaning.proofs.Finding.{some_same, none_no, from_place, same_text, data_reads, size_right, type_right, told_right, exact_kinds}
 use Rattle.sized_meaning.proofs.Datas.{value_same, the_value, datum_shaped}
 
 -- ---- a value that is data has the shape of that data
@@ -137,17 +138,12 @@ module _ (N : Names) (τ : Meant) (Z : Sizing) (m : Worth) (are : Fields_are N Z
   abbrev Right : Found → Type 0
   Right W = Right_found N τ Z m W
 
-  pub integer_is : (o : Option ℕ) (n : ℤ) → as_integer o ≡ Some n → (k : ℕ) × (o ≡ Some k) × (n ≡ pos k)
-  integer_is (Some k) n e = (k, refl, sym (some_same e))
-  integer_is None n e = none_no e
-
   -- data of a sized type has a shape
   pub data_right : (φ : Frames) (t : Size) (h : Shape) (W : Found) → Reads N τ m φ t h → Right W → Right (with_data Z.fields t h W)
   data_right φ t h W k r = (
-    λ d n e. first_or (as_integer (size_in Z.fields (At d) t h)) (W.size d) n e
-        (λ q. let c = integer_is (size_in Z.fields (At d) t h) n q in ap count_of c.2 ∙ size_right N Z.fields τ m φ are (At d) t h k c.0 c.1)
-        (λ q. r.0 d n q),
-    λ v g e. first_or (type_in Z.fields v t h) (W.type v) g e (λ q. type_right N Z.fields τ m φ are one v t h k g q) (λ q. r.1 v g q),
+    λ d n e. from_place (size_place Z.fields (At d) t) (λ p. pos (size_of (at_path p h))) (W.size d) n e
+        (λ p q z. ap count_of (sym z) ∙ size_right N Z.fields τ m φ are (At d) t h k p q) (λ q. r.0 d n q),
+    λ v g e. from_place (type_place Z.fields v t) (λ p. at_path p h) (W.type v) g e (λ p q z. subst (λ x. (τ v).shape x) z (type_right N Z.fields τ m φ are one v t h k p q)) (λ q. r.1 v g q),
   )
 
   told_or_not : (b : Bool) (k : ℕ) (p r : Size) (tell : List Shape → Shape) (W : Found) → (b ≡ true → Reads N τ m (push none_chosen no_frames) r (tell (chosen_shape Z.fields p ∷ []))) → Right W → Right (if_told b (with_data Z.fields r (tell (chosen_shape Z.fields p ∷ [])) W) W)
@@ -162,22 +158,26 @@ module _ (N : Names) (τ : Meant) (Z : Sizing) (m : Worth) (are : Fields_are N Z
   results_right (Built k ts) tell W h w = w
   results_right (Fun k p r) tell W h w = told_or_not (is_known p && gives_chosen k r) k p r tell W (h k p r refl) w
 
-  worth_right : (q : ℕ) (n : Option ℤ) (W : Found) → ((b : ℕ) (z : ℤ) → Z.home b ≡ q → n ≡ Some z → count_of z ≡ m (Name b)) → Right W → Right (with_worth Z.home q n W)
-  worth_right q n W h w = ((λ d z e. first_or (named_worth Z.home q n d) (W.size d) z e (λ e. here d z e) (λ e. w.0 d z e)), w.1)
+  worth_right : (q : ℕ) (t : Size) (n : Option ℤ) (W : Found) → ((b : ℕ) (z : ℤ) → Z.home b ≡ q → is_number t ≡ true → n ≡ Some z → count_of z ≡ m (Name b)) → Right W → Right (with_worth Z.home q t n W)
+  worth_right q t n W h w = ((λ d z e. here d z e), w.1)
     where
-      name_here : (b : ℕ) (z : ℤ) (c : Bool) → nat_eq (Z.home b) q ≡ c → cond c n None ≡ Some z → count_of z ≡ m (Name b)
-      name_here b z true i e = h b z (eqb-true (Z.home b) q i) e
-      name_here b z false i e = none_no e
+      tested : (b : ℕ) (z : ℤ) (x y : Bool) → nat_eq (Z.home b) q ≡ x → is_number t ≡ y → cond (x && y) n (W.size (Name b)) ≡ Some z → count_of z ≡ m (Name b)
+      tested b z true true i k e = h b z (eqb-true (Z.home b) q i) k e
+      tested b z true false i k e = w.0 (Name b) z e
+      tested b z false y i k e = w.0 (Name b) z e
 
-      here : (d : Free) (z : ℤ) → named_worth Z.home q n d ≡ Some z → count_of z ≡ free m d
-      here (Name b) z e = name_here b z (nat_eq (Z.home b) q) refl e
-      here d z e = none_no e
+      here : (d : Free) (z : ℤ) → named_worth Z.home q t n d (W.size d) ≡ Some z → count_of z ≡ free m d
+      here (Name b) z e = tested b z (nat_eq (Z.home b) q) (is_number t) refl refl e
+      here (Const c) z e = w.0 (Const c) z e
+      here (Own k i) z e = w.0 (Own k i) z e
+      here (Unknown k i) z e = w.0 (Unknown k i) z e
+      here (Slot i) z e = w.0 (Slot i) z e
 
   under : (env : FlatEnv) → All_entered N τ Z m env → Right (found Z env)
   unfolding found
   under (base u) a = ((λ d n e. none_no e), (λ v h e. none_no e))
   under (bind b v env) a = under env a
-  under (entered q v env) a = worth_right q (worth_of v) _ (a.0).named (data_right no_frames (Z.size_at q) (value_shape v) _ (a.0).shape (results_right (Z.size_at q) (tells Z v) (found Z env) (a.0).told (under env a.1)))
+  under (entered q v env) a = worth_right q (Z.size_at q) (worth_of v) _ (a.0).named (data_right no_frames (Z.size_at q) (value_shape v) _ (a.0).shape (results_right (Z.size_at q) (tells Z v) (found Z env) (a.0).told (under env a.1)))
 
   -- ---- the rows of a literal
   module _ (W : Found) (right : Right W) where

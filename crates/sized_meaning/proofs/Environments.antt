@@ -1,19 +1,19 @@
 -- The names in scope keep values of their sized types, and what is found under them stays right.
-use Rattle.std.proofs.Common.{◌≡◌, ◌⊎◌, ℕ, zero, suc, ◌<◌, ◌≤◌, [], ◌∷◌, Bool, true, false, ◌&&◌, ◌||◌, cond, nat_eq, Option, Some, None, refl, sym, ap, ◌∙◌, subst, arith, inl, inr, eqb-true, ltb-true, ◌+◌}
-use Rattle.std.specs.Prelude.{ℤ, nat_lt}
+use Rattle.std.proofs.Common.{◌≡◌, ◌⊎◌, ℕ, zero, suc, ◌<◌, ◌≤◌, [], ◌∷◌, Bool, true, false, ◌&&◌, ◌||◌, cond, nat_eq, Option, Some, None, refl, sym, ap, ◌∙◌, subst, arith, inl, inr, eqb-true, eq-eqb, ltb-true, ◌+◌}
+use Rattle.std.specs.Prelude.{ℤ, pos, nat_lt}
 use Rattle.fut_scalar.specs.declared.place.BindId.{BindId}
 use Rattle.fut_types.specs.declared.Head.TheVariants as head
 use Rattle.fut_types.specs.Types.{Sub}
 use Rattle.fut_typing.specs.Names.{Names}
-use Rattle.fut_value.specs.Data.{Shape, Unmet_shape, Scalar_datum}
+use Rattle.fut_value.specs.Data.{Shape, Unmet_shape}
 use Rattle.fut_scalar.specs.declared.scalar.Scalar.TheVariants as scalar
 use Rattle.fut_scalar.specs.declared.scalar.ScalarType.TheVariants as sort
 use Rattle.fut_meaning.specs.Accessors.{count_of}
 use Rattle.fut_meaning.specs.Flats.{FlatValue, FlatEnv, flat_look}
-use Rattle.fut_meaning.specs.Found.{Found, or_else, as_integer, size_in, type_in, named_worth, with_data, with_results, with_worth, if_told, chosen_none, chosen_shape}
+use Rattle.fut_meaning.specs.Found.{Found, is_number as is_whole, named_worth, with_data, with_results, with_worth, if_told, chosen_none, chosen_shape}
+use Rattle.fut_meaning.specs.Places.{size_place, type_place, size_of, at_path}
 use Rattle.fut_meaning.specs.Telling.{worth_of, value_shape, found, tells}
 use Rattle.fut_meaning.specs.Outcomes.{Out, Val, Fail, Wrong}
-use Rattle.fut_meaning.specs.Datums.{datum_of}
 use Rattle.fut_meaning.specs.Values.{Scalar_value, bind, entered}
 use Rattle.sized_types.specs.Sizes.{Free, Const, Name, Own, Unknown, Slot, Dim, At, Bound, Variable, Size, Hole, Open, Level, Built, Fun, Sizes, no_size, size_and}
 use Rattle.sized_types.specs.Standing.{stands, has_hole, is_chosen, is_known, all_known, is_low, gives_chosen, all_chosen, stands_told, has_told}
@@ -23,17 +23,16 @@ use Rattle.fut_sizes.specs.Suiting.{Each, Each_all, Scoped, Of_positions, Data, 
 use Rattle.fut_sizes.specs.Rules.{Each_hole, Each_holes, Inside, Away}
 use Rattle.sized_meaning.specs.Worth.{Worth, free, Frames, no_frames, push, number}
 use Rattle.fut_scalar.specs.Integers.{integer_of}
-use Rattle.sized_meaning.specs.Shapes.{Meant, Has_shape, Has_datum}
+use Rattle.sized_meaning.specs.Shapes.{Meant, Has_shape}
 use Rattle.sized_meaning.specs.Finding.{One_kind_each, Well_formed, Reads}
 use Rattle.sized_meaning.specs.Entered.{none_chosen}
 use Rattle.sized_meaning.specs.Fits.{word, Fits}
-use Rattle.sized_meaning.specs.Law.{Sound, may_be_number, World, calls, Beyond, Env_fits}
+use Rattle.sized_meaning.specs.Law.{Sound, One_type, World, calls, Beyond, Env_fits}
 use Rattle.sized_meaning.proofs.Reading.{fits_same, each_as}
 use Rattle.std.proofs.lemmas.Bool.{ne_eqb}
 use Rattle.sized_meaning.proofs.Suiting.{at_node, free_is, function_of}
-use Rattle.sized_meaning.proofs.Finding.{some_same, none_no, first_or, or_found, either, data_formed, data_reads, told_right, size_scoped, size_right, type_right, size_read, type_read}
-use Rattle.sized_meaning.proofs.Datas.{the_value}
-use Rattle.sized_meaning.proofs.Entered.{both_true, integer_is, fits_read}
+use Rattle.sized_meaning.proofs.Finding.{some_same, none_no, some_place, some_else, from_place, either, data_formed, data_reads, told_right, size_scoped, size_right, type_right, size_placed, type_placed}
+use Rattle.sized_meaning.proofs.Entered.{both_true, fits_read}
 
 the_size : Size → Option Size → Size
 the_size u (Some t) = t
@@ -51,12 +50,6 @@ value_or d Wrong = d
 pub same_val : (v w : FlatValue) → Val v ≡ Val w → v ≡ w
 unfolding value_or
 same_val v w e = ap (value_or v) e
-
-pub some_first : {A : Type 0} (o p : Option A) → (a : A) × (o ≡ Some a) → (b : A) × (or_else o p ≡ Some b)
-some_first o p (a, e) = (a, ap (λ z. or_else z p) e)
-
-pub some_later : {A : Type 0} (o p : Option A) → (a : A) × (p ≡ Some a) → (b : A) × (or_else o p ≡ Some b)
-some_later o p (a, e) = or_found o p a e
 
 -- ---- what is known by itself, and what names nothing that is met
 
@@ -142,22 +135,14 @@ word_is (Scalar_value (scalar.Int t n)) z e = ap count_of (sym (some_same e))
 word_is (Scalar_value (scalar.Bool b)) z e = none_no e
 word_is v z e = none_no e
 
--- only of a type that may have numbers
-module _ (N : Names) (τ : Meant) (W : World) (m : Worth) (φ : Frames) where
-  pub number_type : (t : Size) (v : FlatValue) (z : ℤ) → Fits N τ W.sizing (calls W) m φ t v → worth_of v ≡ Some z → may_be_number t ≡ true
-  unfolding Fits Has_datum datum_of
-  number_type (Level d t) (Scalar_value c) z h e = absurd (subst (λ x. Has_datum N τ m φ (Level d t) x) (the_value h.datum (Scalar_datum c) (sym h.is_datum)) h.fits)
-  number_type (Level d t) v z h e = none_no e
-  number_type (Fun k p r) (Scalar_value c) z h e = absurd (let x : false ≡ true = h.0.0 in cc)
-  number_type (Fun k p r) v z h e = none_no e
-  number_type (Built head.Tuple ts) (Scalar_value c) z h e = absurd h
-  number_type (Built head.Tuple ts) v z h e = none_no e
-  number_type (Built (head.Record n) ts) (Scalar_value c) z h e = absurd h
-  number_type (Built (head.Record n) ts) v z h e = none_no e
-  number_type t v z h e = refl
+-- the sizing and the meaning tell the same types to be numbers
+pub number_there : (t : Size) → is_number t ≡ true → is_whole t ≡ true
+number_there (Built (head.Scalar (sort.Int i)) ts) e = refl
+number_there t e = absurd (let x : false ≡ true = e in cc)
 
+module _ (N : Names) (τ : Meant) (W : World) (m : Worth) (φ : Frames) where
   -- a whole number is worth one
-  pub number_value : (t : Size) (v : FlatValue) → Fits N τ W.sizing (calls W) m φ t v → is_number t ≡ true → (z : ℤ) × (worth_of v ≡ Some z)
+  pub number_value : (t : Size) (v : FlatValue) → Fits N τ W.sizing (calls W) m φ t v → is_whole t ≡ true → (z : ℤ) × (worth_of v ≡ Some z)
   unfolding Fits
   number_value (Built (head.Scalar (sort.Int i)) ts) (Scalar_value (scalar.Int t n)) h e = (integer_of t n, refl)
   number_value (Built (head.Scalar (sort.Int i)) ts) (Scalar_value (scalar.Bool b)) h e = absurd (let x : sort.Bool ≡ sort.Int i = h in cc)
@@ -223,7 +208,8 @@ module _ (N : Names) (types : Sub) (τ : Meant) (W : World) where
   env_moves lo hi lo' hi' m m' G env p q old E = record {
     values = λ b t e v l. let h = E.values b t e v l in (fits_away lo hi m m' t v (E.away b t e).0 old h.0, h.1 ∙ sym (old (Name b) (E.away b t e).1));
     away = λ b t e. (away_narrower lo hi lo' hi' p q t (E.away b t e).0, outside_narrower lo hi lo' hi' p q (Name b) (E.away b t e).1);
-    none_general = E.none_general;
+    general = λ b t e. let g = E.general b t e in (g.0, away_narrower lo hi lo' hi' p q t g.1, λ v l. fits_away lo hi m m' t v g.1 old (g.2 v l));
+    general_worth = λ b t e i. let g = E.general_worth b t e i in (outside_narrower lo hi lo' hi' p q (Name b) g.0, λ v l. g.1 v l ∙ sym (old (Name b) g.0));
     fresh = λ b v i l. E.fresh b v (inside_wider lo hi lo' hi' p q (Name b) i) l;
     sizes_right = λ d n e. let r = E.sizes_right d n e in (r.0 ∙ sym (free_is m' m d (old d r.1)), outside_narrower lo hi lo' hi' p q d r.1);
     types_right = E.types_right;
@@ -244,7 +230,8 @@ module _ (N : Names) (types : Sub) (τ : Meant) (W : World) where
   env_bind lo hi m G env b t v E h a o w number_found = record {
     values = λ k u e x l. values k u x (nat_eq b.0 k) refl e l;
     away = λ k u e. away k u (nat_eq b.0 k) refl e;
-    none_general = λ k. general (nat_eq b.0 k) k;
+    general = λ k u e. general k u (nat_eq b.0 k) e;
+    general_worth = λ k u e i. general_worth k u (nat_eq b.0 k) e i;
     fresh = λ k x i l. fresh k x (nat_eq b.0 k) refl i l;
     sizes_right = E.sizes_right;
     types_right = E.types_right;
@@ -260,9 +247,13 @@ module _ (N : Names) (types : Sub) (τ : Meant) (W : World) where
       away k u true q e = (subst (λ y. Apart lo hi y) (same_some t u e) a, subst (λ n. Out_of lo hi (Name n)) (eqb-true b.0 k q) o)
       away k u false q e = E.away k u e
 
-      general : (c : Bool) (k : ℕ) → cond c None (G.schemes k) ≡ None
-      general true k = refl
-      general false k = E.none_general k
+      general : (k : ℕ) (u : Size) (c : Bool) → cond c None (G.schemes k) ≡ Some u → One_type (G.general k) u × Apart lo hi u × ((x : FlatValue) → cond c (Val v) (flat_look W.tops env k) ≡ Val x → Of m u x)
+      general k u true e = none_no e
+      general k u false e = E.general k u e
+
+      general_worth : (k : ℕ) (u : Size) (c : Bool) → cond c None (G.schemes k) ≡ Some u → is_whole u ≡ true → Out_of lo hi (Name k) × ((x : FlatValue) → cond c (Val v) (flat_look W.tops env k) ≡ Val x → word x ≡ m (Name k))
+      general_worth k u true e i = none_no e
+      general_worth k u false e i = E.general_worth k u e i
 
       fresh : (k : ℕ) (x : FlatValue) (c : Bool) → nat_eq b.0 k ≡ c → In_nodes lo hi (Name k) → cond c (Val v) (flat_look W.tops env k) ≡ Val x → ⊥
       fresh k x true q i l = o (subst (λ n. In_nodes lo hi (Name n)) (sym (eqb-true b.0 k q)) i)
@@ -278,7 +269,8 @@ module _ (N : Names) (types : Sub) (τ : Meant) (W : World) where
   env_positions lo mid hi m G env position le own E plain m' old l = record {
     values = λ k u e x z. values k u x (position (Name k)) refl e z;
     away = λ k u e. away k u (position (Name k)) refl e;
-    none_general = E.none_general;
+    general = (env_moves lo hi mid hi m m' G env l (omega arith) old E).general;
+    general_worth = (env_moves lo hi mid hi m m' G env l (omega arith) old E).general_worth;
     fresh = λ k x i z. E.fresh k x (inside_wider lo hi mid hi l (omega arith) (Name k) i) z;
     sizes_right = (env_moves lo hi mid hi m m' G env l (omega arith) old E).sizes_right;
     types_right = E.types_right;
@@ -303,11 +295,9 @@ module _ (N : Names) (types : Sub) (τ : Meant) (W : World) where
 
     pub data_right : (j : ℕ) (φ : Frames) (t : Size) (h : Shape) (V : Found) → Each (Scoped (Out_of lo hi)) j t → Reads N τ m φ t h → Right_before V → Right_before (with_data W.sizing.fields t h V)
     data_right j φ t h V a k r = (
-      λ d n e. first_or (as_integer (size_in W.sizing.fields (At d) t h)) (V.size d) n e
-          (λ q. let c = integer_is N τ W.sizing m S.fields one (size_in W.sizing.fields (At d) t h) n q in
-          (ap count_of c.2 ∙ size_right N W.sizing.fields τ m φ S.fields (At d) t h k c.0 c.1, size_scoped W.sizing.fields (Out_of lo hi) d j t h a c.0 c.1))
-          (λ q. r.0 d n q),
-      λ v g e. first_or (type_in W.sizing.fields v t h) (V.type v) g e (λ q. type_right N W.sizing.fields τ m φ S.fields one v t h k g q) (λ q. r.1 v g q),
+      λ d n e. from_place (size_place W.sizing.fields (At d) t) (λ p. pos (size_of (at_path p h))) (V.size d) n e
+          (λ p q z. (ap count_of (sym z) ∙ size_right N W.sizing.fields τ m φ S.fields (At d) t h k p q, size_scoped W.sizing.fields (Out_of lo hi) d j t a p q)) (λ q. r.0 d n q),
+      λ v g e. from_place (type_place W.sizing.fields v t) (λ p. at_path p h) (V.type v) g e (λ p q z. subst (λ x. (τ v).shape x) z (type_right N W.sizing.fields τ m φ S.fields one v t h k p q)) (λ q. r.1 v g q),
     )
 
     -- the shape of a parameter that is known by itself
@@ -349,8 +339,7 @@ module _ (N : Names) (types : Sub) (τ : Meant) (W : World) where
         let b = both_true (gives_chosen k r) (stands r d) a.1 in
         let c = here (is_known p) (gives_chosen k r) a.0 b.0 in
         subst (λ z. (n : ℤ) × ((if_told z (with_data W.sizing.fields r (tells W.sizing v (chosen_shape W.sizing.fields p ∷ [])) V) V).size d ≡ Some n)) (sym c)
-        (some_first (as_integer (size_in W.sizing.fields (At d) r (tells W.sizing v (chosen_shape W.sizing.fields p ∷ [])))) (V.size d)
-        (_, ap as_integer (size_read N W.sizing.fields τ m (push none_chosen no_frames) S.fields d r _ f.1 (told_reads k p r v f.0 c h) b.1)))
+        (some_place (size_place W.sizing.fields (At d) r) (λ q. pos (size_of (at_path q (tells W.sizing v (chosen_shape W.sizing.fields p ∷ []))))) (V.size d) (size_placed W.sizing.fields d r f.1 b.1))
       where
         here : (x y : Bool) → x ≡ true → y ≡ true → x && y ≡ true
         here true true q w = refl
@@ -359,7 +348,7 @@ module _ (N : Names) (types : Sub) (τ : Meant) (W : World) where
     told_found (Fun k p r) v V d f h (inr e) = told_or_not (is_known p && gives_chosen k r)
       where
         told_or_not : (b : Bool) → (n : ℤ) × ((if_told b (with_data W.sizing.fields r (tells W.sizing v (chosen_shape W.sizing.fields p ∷ [])) V) V).size d ≡ Some n)
-        told_or_not true = some_later (as_integer (size_in W.sizing.fields (At d) r (tells W.sizing v (chosen_shape W.sizing.fields p ∷ [])))) (V.size d) e
+        told_or_not true = some_else (size_place W.sizing.fields (At d) r) (λ q. pos (size_of (at_path q (tells W.sizing v (chosen_shape W.sizing.fields p ∷ []))))) (V.size d) e
         told_or_not false = e
 
     type_told : (t : Size) (v : FlatValue) (V : Found) (a : Variable) → Well_formed W.sizing.fields t → Of m t v → (has_told t a ≡ true) ⊎ ((g : Shape) × (V.type a ≡ Some g)) → (g : Shape) × ((with_results W.sizing.fields t (tells W.sizing v) V).type a ≡ Some g)
@@ -376,9 +365,8 @@ module _ (N : Names) (types : Sub) (τ : Meant) (W : World) where
         let x = both_true (is_known p) (gives_chosen k r && has_hole r a) e in
         let b = both_true (gives_chosen k r) (has_hole r a) x.1 in
         let c = here (is_known p) (gives_chosen k r) x.0 b.0 in
-        let q = type_read N W.sizing.fields τ m (push none_chosen no_frames) S.fields one a r _ f.1 (told_reads k p r v f.0 c h) b.1 in
         subst (λ z. (g : Shape) × ((if_told z (with_data W.sizing.fields r (tells W.sizing v (chosen_shape W.sizing.fields p ∷ [])) V) V).type a ≡ Some g)) (sym c)
-        (some_first (type_in W.sizing.fields a r (tells W.sizing v (chosen_shape W.sizing.fields p ∷ []))) (V.type a) (q.0, q.1))
+        (some_place (type_place W.sizing.fields a r) (λ q. at_path q (tells W.sizing v (chosen_shape W.sizing.fields p ∷ []))) (V.type a) (type_placed W.sizing.fields a r f.1 b.1))
       where
         here : (x y : Bool) → x ≡ true → y ≡ true → x && y ≡ true
         here true true q w = refl
@@ -387,23 +375,36 @@ module _ (N : Names) (types : Sub) (τ : Meant) (W : World) where
     type_told (Fun k p r) v V a f h (inr e) = told_or_not (is_known p && gives_chosen k r)
       where
         told_or_not : (b : Bool) → (g : Shape) × ((if_told b (with_data W.sizing.fields r (tells W.sizing v (chosen_shape W.sizing.fields p ∷ [])) V) V).type a ≡ Some g)
-        told_or_not true = some_later (type_in W.sizing.fields a r (tells W.sizing v (chosen_shape W.sizing.fields p ∷ []))) (V.type a) e
+        told_or_not true = some_else (type_place W.sizing.fields a r) (λ q. at_path q (tells W.sizing v (chosen_shape W.sizing.fields p ∷ []))) (V.type a) e
         told_or_not false = e
 
     -- a name that has its home at the node is worth the value, where that is a number
     abbrev Named_here : ℕ → FlatValue → Type 0
-    Named_here q v = (b : ℕ) (z : ℤ) → W.sizing.home b ≡ q → worth_of v ≡ Some z → (count_of z ≡ m (Name b)) × Out_of lo hi (Name b)
+    Named_here q v = (b : ℕ) (z : ℤ) → W.sizing.home b ≡ q → is_whole (s q) ≡ true → worth_of v ≡ Some z → (count_of z ≡ m (Name b)) × Out_of lo hi (Name b)
 
-    worth_right : (q : ℕ) (v : FlatValue) (V : Found) → Named_here q v → Right_before V → Right_before (with_worth W.sizing.home q (worth_of v) V)
-    worth_right q v V h w = ((λ d z e. first_or (named_worth W.sizing.home q (worth_of v) d) (V.size d) z e (λ e. here d z e) (λ e. w.0 d z e)), w.1)
+    worth_right : (q : ℕ) (v : FlatValue) (V : Found) → Named_here q v → Right_before V → Right_before (with_worth W.sizing.home q (s q) (worth_of v) V)
+    worth_right q v V h w = ((λ d z e. here d z e), w.1)
       where
-        name_here : (b : ℕ) (z : ℤ) (c : Bool) → nat_eq (W.sizing.home b) q ≡ c → cond c (worth_of v) None ≡ Some z → (count_of z ≡ m (Name b)) × Out_of lo hi (Name b)
-        name_here b z true i e = h b z (eqb-true (W.sizing.home b) q i) e
-        name_here b z false i e = none_no e
+        tested : (b : ℕ) (z : ℤ) (x y : Bool) → nat_eq (W.sizing.home b) q ≡ x → is_whole (s q) ≡ y → cond (x && y) (worth_of v) (V.size (Name b)) ≡ Some z → (count_of z ≡ m (Name b)) × Out_of lo hi (Name b)
+        tested b z true true i k e = h b z (eqb-true (W.sizing.home b) q i) k e
+        tested b z true false i k e = w.0 (Name b) z e
+        tested b z false y i k e = w.0 (Name b) z e
 
-        here : (d : Free) (z : ℤ) → named_worth W.sizing.home q (worth_of v) d ≡ Some z → (count_of z ≡ free m d) × Out_of lo hi d
-        here (Name b) z e = name_here b z (nat_eq (W.sizing.home b) q) refl e
-        here d z e = none_no e
+        here : (d : Free) (z : ℤ) → named_worth W.sizing.home q (s q) (worth_of v) d (V.size d) ≡ Some z → (count_of z ≡ free m d) × Out_of lo hi d
+        here (Name b) z e = tested b z (nat_eq (W.sizing.home b) q) (is_whole (s q)) refl refl e
+        here (Const c) z e = w.0 (Const c) z e
+        here (Own k i) z e = w.0 (Own k i) z e
+        here (Unknown k i) z e = w.0 (Unknown k i) z e
+        here (Slot i) z e = w.0 (Slot i) z e
+
+    -- a name of a number is found at its home
+    pub name_found : (q b : ℕ) (v : FlatValue) (rest : Option ℤ) → Of m (s q) v → W.sizing.home b ≡ q → is_number (s q) ≡ true → (n : ℤ) × (cond (nat_eq (W.sizing.home b) q && is_whole (s q)) (worth_of v) rest ≡ Some n)
+    name_found q b v rest h at_home e = tested (nat_eq (W.sizing.home b) q) (is_whole (s q)) (eq-eqb (W.sizing.home b) q at_home) (number_there (s q) e)
+      where
+        tested : (x y : Bool) → x ≡ true → y ≡ true → (n : ℤ) × (cond (x && y) (worth_of v) rest ≡ Some n)
+        tested true true i k = number_value N τ W m no_frames (s q) v h (number_there (s q) e)
+        tested true false i k = absurd (let z : false ≡ true = k in cc)
+        tested false y i k = absurd (let z : false ≡ true = i in cc)
 
     pub env_entered : (q : ℕ) (G : Context) (env : FlatEnv) (v : FlatValue) → Env_fits N types τ W lo hi m G env → Of m (s q) v → Apart lo hi (s q) → Named_here q v → Env_fits N types τ W lo hi m (with_entered (s q) G) (entered q v env)
     unfolding flat_look found
@@ -413,25 +414,39 @@ module _ (N : Names) (types : Sub) (τ : Meant) (W : World) where
         let right = worth_right q v _ named (data_right 0 no_frames (s q) (value_shape v) _ a reads (results_right (s q) v (found W.sizing env) formed a h (E.sizes_right, E.types_right))) in record {
           values = E.values;
           away = E.away;
-          none_general = E.none_general;
+          general = E.general;
+          general_worth = E.general_worth;
           fresh = E.fresh;
           sizes_right = right.0;
           types_right = right.1;
-          finds = λ d e. some_later (named_worth W.sizing.home q (worth_of v) d) _ (size_found d (either (stands (s q) d) (stands_told (s q) d || G.finds d) e));
+          finds = λ d e. name_first d (size_found d (either (stands (s q) d) (stands_told (s q) d || G.finds d) e));
           finds_types = λ b e. type_found b (either (has_hole (s q) b) (has_told (s q) b || G.finds_types b) e);
         }
       where
+        name_first : (d : Free) → (n : ℤ) × ((with_data W.sizing.fields (s q) (value_shape v) (with_results W.sizing.fields (s q) (tells W.sizing v) (found W.sizing env))).size d ≡ Some n)
+            → (n : ℤ) × (named_worth W.sizing.home q (s q) (worth_of v) d ((with_data W.sizing.fields (s q) (value_shape v) (with_results W.sizing.fields (s q) (tells W.sizing v) (found W.sizing env))).size d) ≡ Some n)
+        name_first (Name b) r = tested (nat_eq (W.sizing.home b) q) (is_whole (s q)) refl
+          where
+            tested : (x y : Bool) → is_whole (s q) ≡ y → (n : ℤ) × (cond (x && y) (worth_of v) ((with_data W.sizing.fields (s q) (value_shape v) (with_results W.sizing.fields (s q) (tells W.sizing v) (found W.sizing env))).size (Name b)) ≡ Some n)
+            tested true true e = number_value N τ W m no_frames (s q) v h e
+            tested true false e = r
+            tested false y e = r
+        name_first (Const c) r = r
+        name_first (Own k i) r = r
+        name_first (Unknown k i) r = r
+        name_first (Slot i) r = r
+
         size_found : (d : Free) → (stands (s q) d ≡ true) ⊎ (stands_told (s q) d || G.finds d ≡ true) → (n : ℤ) × ((with_data W.sizing.fields (s q) (value_shape v) (with_results W.sizing.fields (s q) (tells W.sizing v) (found W.sizing env))).size d ≡ Some n)
-        size_found d (inl e) = some_first (as_integer (size_in W.sizing.fields (At d) (s q) (value_shape v))) _ (_, ap as_integer (size_read N W.sizing.fields τ m no_frames S.fields d (s q) (value_shape v) (S.formed q) (fits_read N τ W.sizing (calls W) m no_frames (s q) v h) e))
-        size_found d (inr e) = some_later (as_integer (size_in W.sizing.fields (At d) (s q) (value_shape v))) _ (told_found (s q) v (found W.sizing env) d (S.formed q) h (by_told (either (stands_told (s q) d) (G.finds d) e)))
+        size_found d (inl e) = some_place (size_place W.sizing.fields (At d) (s q)) (λ p. pos (size_of (at_path p (value_shape v)))) _ (size_placed W.sizing.fields d (s q) (S.formed q) e)
+        size_found d (inr e) = some_else (size_place W.sizing.fields (At d) (s q)) (λ p. pos (size_of (at_path p (value_shape v)))) _ (told_found (s q) v (found W.sizing env) d (S.formed q) h (by_told (either (stands_told (s q) d) (G.finds d) e)))
           where
             by_told : (stands_told (s q) d ≡ true) ⊎ (G.finds d ≡ true) → (stands_told (s q) d ≡ true) ⊎ ((n : ℤ) × ((found W.sizing env).size d ≡ Some n))
             by_told (inl e) = inl e
             by_told (inr e) = inr (E.finds d e)
 
         type_found : (b : Variable) → (has_hole (s q) b ≡ true) ⊎ (has_told (s q) b || G.finds_types b ≡ true) → (g : Shape) × ((with_data W.sizing.fields (s q) (value_shape v) (with_results W.sizing.fields (s q) (tells W.sizing v) (found W.sizing env))).type b ≡ Some g)
-        type_found b (inl e) = let r = type_read N W.sizing.fields τ m no_frames S.fields one b (s q) (value_shape v) (S.formed q) (fits_read N τ W.sizing (calls W) m no_frames (s q) v h) e in some_first (type_in W.sizing.fields b (s q) (value_shape v)) _ (r.0, r.1)
-        type_found b (inr e) = some_later (type_in W.sizing.fields b (s q) (value_shape v)) _ (type_told (s q) v (found W.sizing env) b (S.formed q) h (by_told (either (has_told (s q) b) (G.finds_types b) e)))
+        type_found b (inl e) = some_place (type_place W.sizing.fields b (s q)) (λ p. at_path p (value_shape v)) _ (type_placed W.sizing.fields b (s q) (S.formed q) e)
+        type_found b (inr e) = some_else (type_place W.sizing.fields b (s q)) (λ p. at_path p (value_shape v)) _ (type_told (s q) v (found W.sizing env) b (S.formed q) h (by_told (either (has_told (s q) b) (G.finds_types b) e)))
           where
             by_told : (has_told (s q) b ≡ true) ⊎ (G.finds_types b ≡ true) → (has_told (s q) b ≡ true) ⊎ ((g : Shape) × ((found W.sizing env).type b ≡ Some g))
             by_told (inl e) = inl e

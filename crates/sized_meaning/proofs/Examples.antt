@@ -170,7 +170,8 @@ module _ (N : Names) (named : AreNames N) (τ : Variable → Shape) (one : One_s
   five_env m = record {
     values = λ b t e v l. none_no e;
     away = λ b t e. none_no e;
-    none_general = λ b. refl;
+    general = λ b t e. none_no e;
+    general_worth = λ b t e i. none_no e;
     fresh = λ b v i l. let x = i.1 in absurd (omega (arith, x));
     sizes_right = λ d n e. none_no e;
     types_right = λ v h e. none_no e;

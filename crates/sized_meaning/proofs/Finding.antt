@@ -1,21 +1,22 @@
 -- What stands in the sized type of data is found in its shape, what is found is right, and so is the shape that is told of it.
-use Rattle.std.proofs.Common.{◌≡◌, ◌⊎◌, ℕ, suc, ◌<◌, ◌≤◌, ◌==◌, ◌||◌, Bool, true, false, cond, if◌then◌else◌, List, [], ◌∷◌, Option, Some, None, refl, sym, ap, ◌∙◌, subst, arith, inl, inr, eqb-true, eq-eqb}
+use Rattle.std.proofs.Common.{◌≡◌, ◌⊎◌, ℕ, suc, ◌+◌, ◌<◌, ◌≤◌, ◌==◌, ◌||◌, Bool, true, false, cond, if◌then◌else◌, List, [], ◌∷◌, Option, Some, None, refl, sym, ap, ◌∙◌, subst, arith, inl, inr, eqb-true, eq-eqb}
 use Rattle.std.specs.Prelude.{nat_eq}
 use Rattle.std.specs.Str.{bytes_eq}
 use Rattle.std.proofs.lemmas.Slice.Eq.{bytes_eq-Decides}
 use Rattle.fut_ast.specs.Sorts.{Text}
 use Rattle.fut_types.specs.declared.Head.{Head}
 use Rattle.fut_types.specs.declared.Head.TheVariants as head
-use Rattle.fut_types.specs.Shapes.{place, place_from}
+use Rattle.fut_types.specs.Shapes.{place as label_place, place_from}
 use Rattle.fut_typing.specs.Names.{Names, AreNames}
 use Rattle.fut_value.specs.Data.{Shape, Tuple_shape, Record_shape, Array_shape, Shapes, no_shape, shape_and, Named_shapes, no_named_shape, named_shape_and}
 use Rattle.fut_meaning.specs.Values.{is_before}
-use Rattle.fut_meaning.specs.Found.{or_else, on_some, field_shape, sought, all_sought, named_sought, if_dim, if_variable, size_in, type_in, with_named, named_shapes, told_shape, told_shapes}
+use Rattle.fut_meaning.specs.Places.{Path, Whole, In_rows, In_part, In_field, or_else, below, place, part_place, field_place, size_place, type_place, on_place, size_of, shape_at, or_unmet, field_shape, at_path}
+use Rattle.fut_meaning.specs.Found.{with_named, named_shapes, told_shape, told_shapes}
 use Rattle.sized_types.specs.Sizes.{Free, Const, Name, Own, Unknown, Slot, Dim, At, Bound, Variable, Inferred, Written, is_variable, Size, Hole, Open, Level, Built, Fun, Sizes, no_size, size_and, is_free, is_dim}
 use Rattle.sized_types.specs.Standing.{stands, some_stands, has_hole, some_hole}
 use Rattle.fut_sizes.specs.Rules.{Each_hole, Each_holes}
 use Rattle.fut_sizes.specs.Suiting.{Each, Each_all, Scoped, Data, All_data}
-use Rattle.sized_meaning.specs.Worth.{Worth, free, Frames, number}
+use Rattle.sized_meaning.specs.Worth.{Worth, Frames, number}
 use Rattle.sized_meaning.specs.Shapes.{Meant, exactly, Has_shape, Have_shapes, Have_named}
 use Rattle.sized_meaning.specs.Finding.{Reads, All_read, Named_read, Fields_from, Fields_are, One_shape_each, One_kind_each, As_many, Formed, All_formed, Well_formed, All_well_formed, FoundIsRight, StandingIsFound, ToldIsRight}
 
@@ -31,11 +32,7 @@ pub first_or : {A X : Type 0} (o p : Option A) (a : A) → or_else o p ≡ Some 
 first_or (Some b) p a e f g = f e
 first_or None p a e f g = g e
 
-some_then : {A B : Type 0} (o : Option A) (k : A → Option B) (b : B) → on_some o k ≡ Some b → (a : A) × (o ≡ Some a) × (k a ≡ Some b)
-some_then (Some a) k b e = (a, refl, e)
-some_then None k b e = none_no e
-
-text_same : (f g : Text) → bytes_eq f g ≡ true → f ≡ g
+pub text_same : (f g : Text) → bytes_eq f g ≡ true → f ≡ g
 text_same f g e = ((bytes_eq-Decides f g).0) e
 
 -- a field behind another, where the names differ
@@ -134,7 +131,7 @@ or_found None p a e = (a, e)
 
 -- ---- a place of a record is that of one name
 
-place_on : (at label : ℕ) (xs : List ℕ) (i : ℕ) → place_from at label xs ≡ Some i → at ≤ i
+pub place_on : (at label : ℕ) (xs : List ℕ) (i : ℕ) → place_from at label xs ≡ Some i → at ≤ i
 unfolding place_from
 place_on at label [] i e = none_no e
 place_on at label (x ∷ xs) i e = tested (x == label) e (λ q. place_on (suc at) label xs i q)
@@ -154,8 +151,8 @@ one_label at k l (x ∷ xs) i p q = tested (x == k) (x == l) refl refl p q (λ p
     tested false true e f p q rest = let z : at ≡ i = some_same q in let w = place_on (suc at) k xs i p in absurd (omega (arith, z, w))
     tested false false e f p q rest = rest p q
 
-pub same_text : (N : Names) → AreNames N → (n i : ℕ) (f g : Text) → place N.shapes (N.label f) (head.Record n) ≡ Some i → place N.shapes (N.label g) (head.Record n) ≡ Some i → f ≡ g
-unfolding place
+pub same_text : (N : Names) → AreNames N → (n i : ℕ) (f g : Text) → label_place N.shapes (N.label f) (head.Record n) ≡ Some i → label_place N.shapes (N.label g) (head.Record n) ≡ Some i → f ≡ g
+unfolding label_place
 same_text N named n i f g p q = named.one_label f g (one_label 0 (N.label f) (N.label g) (N.shapes.fields n) i p q)
 
 -- ---- data reads as its sized type says
@@ -185,90 +182,115 @@ module _ (N : Names) (τ : Meant) (m : Worth) (φ : Frames) where
     named_data_read n i no_size hs k = tt
     named_data_read n i (size_and t ts) hs k = ((λ f p. let c = k.0 f p in (c.0, c.1, data_reads t c.0 c.2)), named_data_read n (suc i) ts hs k.1)
 
+pub one_place : {X : Type 0} (o : Option Path) (step : Path → Path) (p : Path) → below step o ≡ Some p → ((q : Path) → o ≡ Some q → step q ≡ p → X) → X
+one_place (Some q) step p e go = go q refl (some_same e)
+one_place None step p e go = none_no e
+
+pub some_place : {A : Type 0} (o : Option Path) (there : Path → A) (rest : Option A) → (p : Path) × (o ≡ Some p) → (a : A) × (on_place o (λ p. Some (there p)) rest ≡ Some a)
+some_place o there rest (p, e) = (there p, ap (λ z. on_place z (λ p. Some (there p)) rest) e)
+
+pub some_else : {A : Type 0} (o : Option Path) (there : Path → A) (rest : Option A) → (a : A) × (rest ≡ Some a) → (a : A) × (on_place o (λ p. Some (there p)) rest ≡ Some a)
+some_else (Some p) there rest r = (there p, refl)
+some_else None there rest r = r
+
+pub from_place : {A X : Type 0} (o : Option Path) (there : Path → A) (rest : Option A) (a : A) → on_place o (λ p. Some (there p)) rest ≡ Some a → ((p : Path) → o ≡ Some p → there p ≡ a → X) → (rest ≡ Some a → X) → X
+from_place (Some p) there rest a e here other = here p refl (some_same e)
+from_place None there rest a e here other = other e
+
+-- what stands in the type has a place there
+module _ (fields : ℕ → List Text) (is_size : Dim → Bool) (is_type : Variable → Bool) (L : Dim → Type 0) (H : Variable → Type 0) (size_there : (d : Dim) → L d → is_size d ≡ true) (type_there : (v : Variable) → H v → is_type v ≡ true) where
+  or_below : (b : Bool) (step : Path → Path) (o : Option Path) → (p : Path) × (o ≡ Some p) → (p : Path) × (cond b (Some Whole) (below step o) ≡ Some p)
+  or_below true step o q = (Whole, refl)
+  or_below false step o q = (step q.0, ap (below step) q.1)
+
+  first_place : (step : Path → Path) (o rest : Option Path) → (p : Path) × (o ≡ Some p) → (p : Path) × (or_else (below step o) rest ≡ Some p)
+  first_place step o rest q = (step q.0, ap (λ z. or_else (below step z) rest) q.1)
+
+  mutual
+    unfolding place part_place field_place Well_formed All_well_formed
+
+    has_place : (t : Size) → Occurs L H t → Well_formed fields t → (p : Path) × (place fields is_size is_type t ≡ Some p)
+    has_place (Hole v) (at_hole_of q) f = (Whole, ap (λ b. cond b (Some Whole) None) (type_there v q))
+    has_place (Level d t) (at_level_of q) f = (Whole, ap (λ b. cond b (Some Whole) (below In_rows (place fields is_size is_type t))) (size_there d q))
+    has_place (Level d t) (in_rows o) f = or_below (is_size d) In_rows (place fields is_size is_type t) (has_place t o f)
+    has_place (Built head.Tuple ts) (in_parts o) f = part_has_place 0 ts o f.1
+    has_place (Built (head.Record n) ts) (in_parts o) f = field_has_place ts (fields n) o f.0 f.1
+    has_place (Built (head.Scalar s) (size_and t ts)) o f = absurd f.0
+    has_place (Built (head.Scalar s) no_size) (in_parts o) f = absurd (has_parts o)
+    has_place (Built (head.Abstract n d) ts) o f = absurd f.0
+    has_place (Open n v u) o f = absurd (is_place o)
+    has_place (Fun c p r) o f = absurd (is_place o)
+    has_place (Built head.Array ts) o f = absurd f.0
+    has_place (Built head.Fun ts) o f = absurd f.0
+    has_place (Built (head.Rigid n d) ts) o f = absurd f.0
+
+    part_has_place : (k : ℕ) (ts : Sizes) → Some_occurs L H ts → All_well_formed fields ts → (p : Path) × (part_place fields is_size is_type k ts ≡ Some p)
+    part_has_place k no_size o f = absurd (has_parts o)
+    part_has_place k (size_and t ts) (in_first o) f = first_place (In_part k) (place fields is_size is_type t) (part_place fields is_size is_type (suc k) ts) (has_place t o f.0)
+    part_has_place k (size_and t ts) (in_later o) f = let r = part_has_place (suc k) ts o f.1 in or_found (below (In_part k) (place fields is_size is_type t)) (part_place fields is_size is_type (suc k) ts) r.0 r.1
+
+    field_has_place : (ts : Sizes) (fs : List Text) → Some_occurs L H ts → As_many fs ts → All_well_formed fields ts → (p : Path) × (field_place fields is_size is_type fs ts ≡ Some p)
+    field_has_place no_size fs o l f = absurd (has_parts o)
+    field_has_place (size_and t ts) [] o l f = absurd l
+    field_has_place (size_and t ts) (x ∷ fs) (in_first o) l f = first_place (In_field x) (place fields is_size is_type t) (field_place fields is_size is_type fs ts) (has_place t o f.0)
+    field_has_place (size_and t ts) (x ∷ fs) (in_later o) l f = let r = field_has_place ts fs o l f.1 in or_found (below (In_field x) (place fields is_size is_type t)) (field_place fields is_size is_type fs ts) r.0 r.1
+
 module _ (N : Names) (fields : ℕ → List Text) (are : Fields_are N fields) (τ : Meant) (m : Worth) (φ : Frames) where
-  -- ---- what is sought and found has a property, if it has it at the levels and at the type variables
-  module _ {A : Type 0} (P : A → Type 0) (at_level : Dim → ℕ → Option A) (at_hole : Variable → Shape → Option A) (level_right : (d : Dim) (a : A) → at_level d (number m φ d) ≡ Some a → P a) (hole_right : (v : Variable) (h : Shape) (a : A) → (τ v).shape h → at_hole v h ≡ Some a → P a) where
+  -- ---- at its place data has a property, if it has it at the levels and at the type variables
+  module _ (P : Shape → Type 0) (is_size : Dim → Bool) (is_type : Variable → Bool) (level_right : (d : Dim) (n : ℕ) (row : Shape) → is_size d ≡ true → n ≡ number m φ d → P (Array_shape n row)) (hole_right : (v : Variable) (h : Shape) → is_type v ≡ true → (τ v).shape h → P h) where
+    level_there : (d : Dim) (t : Size) (n : ℕ) (row : Shape) (b : Bool) → is_size d ≡ b → n ≡ number m φ d → (p : Path) → cond b (Some Whole) (below In_rows (place fields is_size is_type t)) ≡ Some p → ((q : Path) → place fields is_size is_type t ≡ Some q → P (at_path q row)) → P (at_path p (Array_shape n row))
+    level_there d t n row true q k p e deeper = subst (λ x. P (at_path x (Array_shape n row))) (some_same e) (level_right d n row q k)
+    level_there d t n row false q k p e deeper = one_place (place fields is_size is_type t) In_rows p e (λ x y z. subst (λ x. P (at_path x (Array_shape n row))) z (deeper x y))
+
+    hole_there : (v : Variable) (h : Shape) (b : Bool) → is_type v ≡ b → (τ v).shape h → (p : Path) → cond b (Some Whole) None ≡ Some p → P (at_path p h)
+    hole_there v h true q k p e = subst (λ x. P (at_path x h)) (some_same e) (hole_right v h q k)
+    hole_there v h false q k p e = none_no e
+
     mutual
-      unfolding sought all_sought named_sought Reads All_read Named_read
+      unfolding place part_place field_place Reads All_read Named_read
 
-      pub sought_right : (t : Size) (h : Shape) → Reads N τ m φ t h → (a : A) → sought fields at_level at_hole t h ≡ Some a → P a
-      sought_right (Hole v) h k a e = hole_right v h a k e
-      sought_right (Open n v u) h k a e = none_no e
-      sought_right (Level d t) (Array_shape n row) k a e =
-          first_or (at_level d n) (sought fields at_level at_hole t row) a e (λ q. level_right d a (subst (λ z. at_level d z ≡ Some a) k.0 q)) (λ q. sought_right t row k.1 a q)
-      sought_right (Level d t) h k a e = absurd k
-      sought_right (Built head.Tuple ts) (Tuple_shape hs) k a e = all_right ts hs k a e
-      sought_right (Built head.Tuple ts) h k a e = absurd k
-      sought_right (Built (head.Record n) ts) (Record_shape hs) k a e = named_right n 0 ts (fields n) hs (are n) k a e
-      sought_right (Built (head.Record n) ts) h k a e = absurd k
-      sought_right (Built g ts) h k a e = none_no e
-      sought_right (Fun c p r) h k a e = none_no e
+      pub placed_right : (t : Size) (h : Shape) → Reads N τ m φ t h → (p : Path) → place fields is_size is_type t ≡ Some p → P (at_path p h)
+      placed_right (Hole v) h k p e = hole_there v h (is_type v) refl k p e
+      placed_right (Open n v u) h k p e = none_no e
+      placed_right (Level d t) (Array_shape n row) k p e = level_there d t n row (is_size d) refl k.0 p e (λ q i. placed_right t row k.1 q i)
+      placed_right (Level d t) h k p e = absurd k
+      placed_right (Built head.Tuple ts) (Tuple_shape hs) k p e = part_right 0 ts hs hs (λ i. ap (λ j. shape_at j hs) (let z : 0 + i ≡ i = omega arith in z)) k p e
+      placed_right (Built head.Tuple ts) h k p e = absurd k
+      placed_right (Built (head.Record n) ts) (Record_shape hs) k p e = field_right n 0 ts (fields n) hs (are n) k p e
+      placed_right (Built (head.Record n) ts) h k p e = absurd k
+      placed_right (Built g ts) h k p e = none_no e
+      placed_right (Fun c a r) h k p e = none_no e
 
-      all_right : (ts : Sizes) (hs : Shapes) → All_read N τ m φ ts hs → (a : A) → all_sought fields at_level at_hole ts hs ≡ Some a → P a
-      all_right no_size hs k a e = none_no e
-      all_right (size_and t ts) no_shape k a e = absurd k
-      all_right (size_and t ts) (shape_and h hs) k a e = first_or (sought fields at_level at_hole t h) (all_sought fields at_level at_hole ts hs) a e (λ q. sought_right t h k.0 a q) (λ q. all_right ts hs k.1 a q)
+      part_right : (k : ℕ) (ts : Sizes) (all hs : Shapes) → ((i : ℕ) → shape_at (k + i) all ≡ shape_at i hs) → All_read N τ m φ ts hs → (p : Path) → part_place fields is_size is_type k ts ≡ Some p → P (at_path p (Tuple_shape all))
+      part_right k no_size all hs sees r p e = none_no e
+      part_right k (size_and t ts) all no_shape sees r p e = absurd r
+      part_right k (size_and t ts) all (shape_and h hs) sees r p e = first_or (below (In_part k) (place fields is_size is_type t)) (part_place fields is_size is_type (suc k) ts) p e
+          (λ e. one_place (place fields is_size is_type t) (In_part k) p e (λ x y z. subst (λ x. P (at_path x (Tuple_shape all))) z
+          (subst (λ g. P (at_path x g)) (sym (ap (λ j. shape_at j all) (let w : k ≡ k + 0 = omega arith in w) ∙ sees 0)) (placed_right t h r.0 x y))))
+          (λ e. part_right (suc k) ts all hs (λ i. ap (λ j. shape_at j all) (let w : suc k + i ≡ k + suc i = omega arith in w) ∙ sees (suc i)) r.1 p e)
 
-      named_right : (n i : ℕ) (ts : Sizes) (fs : List Text) (hs : Named_shapes) → Fields_from N n i fs → Named_read N τ m φ n i ts hs → (a : A) → named_sought fields at_level at_hole fs ts hs ≡ Some a → P a
-      named_right n i no_size [] hs b k a e = none_no e
-      named_right n i no_size (f ∷ fs) hs b k a e = none_no e
-      named_right n i (size_and t ts) [] hs b k a e = none_no e
-      named_right n i (size_and t ts) (f ∷ fs) hs b k a e =
-          first_or (on_some (field_shape f hs) (sought fields at_level at_hole t)) (named_sought fields at_level at_hole fs ts hs) a e
-          (λ q. let r = some_then (field_shape f hs) (sought fields at_level at_hole t) a q in let c = k.0 f b.0 in sought_right t c.0 c.2 a (subst (λ z. sought fields at_level at_hole t z ≡ Some a) (some_same (sym r.1 ∙ c.1)) r.2))
-          (λ q. named_right n (suc i) ts fs hs b.1 k.1 a q)
-
-    -- ---- and what stands in the type is found
-    module _ (L : Dim → Type 0) (H : Variable → Type 0) (level_found : (d : Dim) (n : ℕ) → L d → (a : A) × (at_level d n ≡ Some a)) (hole_found : (v : Variable) (h : Shape) → H v → (a : A) × (at_hole v h ≡ Some a)) where
-      mutual
-        unfolding sought all_sought named_sought Reads All_read Named_read Well_formed All_well_formed
-
-        occurs_found : (t : Size) (h : Shape) → Occurs L H t → Well_formed fields t → Reads N τ m φ t h → (a : A) × (sought fields at_level at_hole t h ≡ Some a)
-        occurs_found (Hole v) h (at_hole_of q) f k = hole_found v h q
-        occurs_found (Level d t) (Array_shape n row) (at_level_of q) f k = let r = level_found d n q in (r.0, ap (λ z. or_else z (sought fields at_level at_hole t row)) r.1)
-        occurs_found (Level d t) (Array_shape n row) (in_rows o) f k = let r = occurs_found t row o f k.1 in or_found (at_level d n) (sought fields at_level at_hole t row) r.0 r.1
-        occurs_found (Level d t) h o f k = absurd k
-        occurs_found (Built head.Tuple ts) (Tuple_shape hs) (in_parts o) f k = parts_found ts hs o f.1 k
-        occurs_found (Built head.Tuple ts) h o f k = absurd k
-        occurs_found (Built (head.Record n) ts) (Record_shape hs) (in_parts o) f k = named_found n 0 ts (fields n) hs o (are n) f.0 f.1 k
-        occurs_found (Built (head.Record n) ts) h o f k = absurd k
-        occurs_found (Built (head.Scalar s) (size_and t ts)) h o f k = absurd f.0
-        occurs_found (Built (head.Scalar s) no_size) h (in_parts o) f k = absurd (has_parts o)
-        occurs_found (Built (head.Abstract n d) ts) h o f k = absurd f.0
-        occurs_found (Open n v u) h o f k = absurd (is_place o)
-        occurs_found (Fun c p r) h o f k = absurd (is_place o)
-        occurs_found (Built head.Array ts) h o f k = absurd f.0
-        occurs_found (Built head.Fun ts) h o f k = absurd f.0
-        occurs_found (Built (head.Rigid n d) ts) h o f k = absurd f.0
-
-        parts_found : (ts : Sizes) (hs : Shapes) → Some_occurs L H ts → All_well_formed fields ts → All_read N τ m φ ts hs → (a : A) × (all_sought fields at_level at_hole ts hs ≡ Some a)
-        parts_found no_size hs o f k = absurd (has_parts o)
-        parts_found (size_and t ts) no_shape o f k = absurd k
-        parts_found (size_and t ts) (shape_and h hs) (in_first o) f k = let r = occurs_found t h o f.0 k.0 in (r.0, ap (λ z. or_else z (all_sought fields at_level at_hole ts hs)) r.1)
-        parts_found (size_and t ts) (shape_and h hs) (in_later o) f k = let r = parts_found ts hs o f.1 k.1 in or_found (sought fields at_level at_hole t h) (all_sought fields at_level at_hole ts hs) r.0 r.1
-
-        named_found : (n i : ℕ) (ts : Sizes) (fs : List Text) (hs : Named_shapes) → Some_occurs L H ts → Fields_from N n i fs → As_many fs ts → All_well_formed fields ts → Named_read N τ m φ n i ts hs → (a : A) × (named_sought fields at_level at_hole fs ts hs ≡ Some a)
-        named_found n i no_size fs hs o b l f k = absurd (has_parts o)
-        named_found n i (size_and t ts) [] hs o b l f k = absurd l
-        named_found n i (size_and t ts) (x ∷ fs) hs (in_first o) b l f k =
-            let c = k.0 x b.0 in let r = occurs_found t c.0 o f.0 c.2 in
-            (r.0, ap (λ z. or_else (on_some z (sought fields at_level at_hole t)) (named_sought fields at_level at_hole fs ts hs)) c.1 ∙ ap (λ z. or_else z (named_sought fields at_level at_hole fs ts hs)) r.1)
-        named_found n i (size_and t ts) (x ∷ fs) hs (in_later o) b l f k =
-            let r = named_found n (suc i) ts fs hs o b.1 l f.1 k.1 in or_found (on_some (field_shape x hs) (sought fields at_level at_hole t)) (named_sought fields at_level at_hole fs ts hs) r.0 r.1
+      field_right : (n i : ℕ) (ts : Sizes) (fs : List Text) (hs : Named_shapes) → Fields_from N n i fs → Named_read N τ m φ n i ts hs → (p : Path) → field_place fields is_size is_type fs ts ≡ Some p → P (at_path p (Record_shape hs))
+      field_right n i no_size [] hs b r p e = none_no e
+      field_right n i no_size (f ∷ fs) hs b r p e = none_no e
+      field_right n i (size_and t ts) [] hs b r p e = none_no e
+      field_right n i (size_and t ts) (f ∷ fs) hs b r p e = first_or (below (In_field f) (place fields is_size is_type t)) (field_place fields is_size is_type fs ts) p e
+          (λ e. one_place (place fields is_size is_type t) (In_field f) p e (λ x y z. let c = r.0 f b.0 in subst (λ x. P (at_path x (Record_shape hs))) z
+          (subst (λ o. P (at_path x (or_unmet o))) (sym c.1) (placed_right t c.0 c.2 x y))))
+          (λ e. field_right n (suc i) ts fs hs b.1 r.1 p e)
 
   -- ---- the shape that is told
 
   -- fields whose places come before are not among these
-  not_among : (n i j : ℕ) (fs : List Text) (hs : Shapes) (f : Text) → Fields_from N n i fs → place N.shapes (N.label f) (head.Record n) ≡ Some j → j < i → field_shape f (named_shapes fs hs) ≡ None
+  not_among : (n i j : ℕ) (fs : List Text) (hs : Shapes) (f : Text) → Fields_from N n i fs → label_place N.shapes (N.label f) (head.Record n) ≡ Some j → j < i → field_shape f (named_shapes fs hs) ≡ None
   not_among n i j [] hs f b p lt = refl
   not_among n i j (g ∷ fs) no_shape f b p lt = refl
   not_among n i j (g ∷ fs) (shape_and k hs) f b p lt =
-      put_else f g k (named_shapes fs hs) (λ e. let z : i ≡ j = some_same (sym b.0 ∙ subst (λ x. place N.shapes (N.label x) (head.Record n) ≡ Some j) e p) in omega (arith, z, lt))
+      put_else f g k (named_shapes fs hs) (λ e. let z : i ≡ j = some_same (sym b.0 ∙ subst (λ x. label_place N.shapes (N.label x) (head.Record n) ≡ Some j) e p) in omega (arith, z, lt))
       ∙ not_among n (suc i) j fs hs f b.1 p (omega (arith, lt))
 
   -- parts are told right where each field is found as among the names from here on
   abbrev Sees : ℕ → ℕ → Named_shapes → Named_shapes → Type 0
-  Sees n i all these = (f : Text) (j : ℕ) → place N.shapes (N.label f) (head.Record n) ≡ Some j → i ≤ j → field_shape f all ≡ field_shape f these
+  Sees n i all these = (f : Text) (j : ℕ) → label_place N.shapes (N.label f) (head.Record n) ≡ Some j → i ≤ j → field_shape f all ≡ field_shape f these
 
   module _ (named : AreNames N) (sizes : Dim → ℕ) (shapes : Variable → Shape) where
     mutual
@@ -300,10 +322,10 @@ module _ (N : Names) (fields : ℕ → List Text) (are : Fields_are N fields) (�
         fields_told n (suc i) ts fs all b.1 l f.1 d.1 e.1 (λ g j p lt. sees g j p (omega (arith, lt)) ∙ put_else g x (told_shape fields sizes shapes t) (named_shapes fs (told_shapes fields sizes shapes ts)) (other g j p lt)),
       )
         where
-          other : (g : Text) (j : ℕ) → place N.shapes (N.label g) (head.Record n) ≡ Some j → suc i ≤ j → g ≡ x → ⊥
-          other g j p lt q = let z : i ≡ j = some_same (sym b.0 ∙ subst (λ y. place N.shapes (N.label y) (head.Record n) ≡ Some j) q p) in omega (arith, z, lt)
+          other : (g : Text) (j : ℕ) → label_place N.shapes (N.label g) (head.Record n) ≡ Some j → suc i ≤ j → g ≡ x → ⊥
+          other g j p lt q = let z : i ≡ j = some_same (sym b.0 ∙ subst (λ y. label_place N.shapes (N.label y) (head.Record n) ≡ Some j) q p) in omega (arith, z, lt)
 
-          here : (g : Text) → place N.shapes (N.label g) (head.Record n) ≡ Some i → (hs : Shapes) → field_shape g (with_named x (told_shape fields sizes shapes t) (named_shapes fs hs)) ≡ Some (told_shape fields sizes shapes t)
+          here : (g : Text) → label_place N.shapes (N.label g) (head.Record n) ≡ Some i → (hs : Shapes) → field_shape g (with_named x (told_shape fields sizes shapes t) (named_shapes fs hs)) ≡ Some (told_shape fields sizes shapes t)
           here g p hs = subst (λ y. field_shape y (with_named x (told_shape fields sizes shapes t) (named_shapes fs hs)) ≡ Some (told_shape fields sizes shapes t)) (sym (same_text N named n i g x p b.0))
               (put_here x (told_shape fields sizes shapes t) (named_shapes fs hs) (not_among n (suc i) i fs hs x b.1 b.0 (omega arith)))
 
@@ -335,14 +357,6 @@ dim_same (Bound j i) (Bound k l) q = two (nat_eq j k) refl q
     two true e q = ap (λ z. Bound z i) (eqb-true j k e) ∙ ap (Bound k) (eqb-true i l q)
     two false e q = absurd (let z : false ≡ true = q in cc)
 dim_same d e q = absurd (let z : false ≡ true = q in cc)
-
-sized : (m : Worth) (φ : Frames) (x d : Dim) (n : ℕ) (b : Bool) → is_dim d x ≡ b → cond b (Some (number m φ d)) None ≡ Some n → n ≡ number m φ x
-sized m φ x d n true q e = sym (some_same e) ∙ ap (number m φ) (dim_same d x q)
-sized m φ x d n false q e = none_no e
-
-shaped : (τ : Meant) → One_kind_each τ → (v w : Variable) (h g : Shape) (b : Bool) → is_variable w v ≡ b → (τ w).shape h → cond b (Some h) None ≡ Some g → (τ v).shape g
-shaped τ one v w h g true q k e = subst (λ z. (τ v).shape z) (some_same e) (one w v q h k)
-shaped τ one v w h g false q k e = none_no e
 
 -- the kinds of exact shapes
 pub exact_kinds : (τ : Variable → Shape) → One_shape_each τ → One_kind_each (exactly τ)
@@ -395,74 +409,57 @@ module _ (v : Variable) where
     some_hole_occurs no_size e = absurd (let z : false ≡ true = e in cc)
     some_hole_occurs (size_and t ts) e = part_occurs (either (has_hole t v) (some_hole ts v) e) (λ q. hole_occurs t q) (λ q. some_hole_occurs ts q)
 
--- a size that is found stands in the type
+-- a size that has a place stands in the type
 module _ (fields : ℕ → List Text) (In : Free → Type 0) (x : Free) where
-  level_scoped : (j : ℕ) (d : Dim) (n k : ℕ) (b : Bool) → is_dim d (At x) ≡ b → Scoped In j d → cond b (Some n) None ≡ Some k → In x
-  level_scoped j d n k true q a e = subst (λ y. Scoped In j y) (dim_same d (At x) q) a
-  level_scoped j d n k false q a e = none_no e
+  level_scoped : (j : ℕ) (d : Dim) (o : Option Path) (p : Path) (b : Bool) → is_dim d (At x) ≡ b → Scoped In j d → cond b (Some Whole) (below In_rows o) ≡ Some p → ((q : Path) → o ≡ Some q → In x) → In x
+  level_scoped j d o p true q a e deeper = subst (λ y. Scoped In j y) (dim_same d (At x) q) a
+  level_scoped j d o p false q a e deeper = one_place o In_rows p e (λ y z w. deeper y z)
 
   mutual
-    unfolding sought all_sought named_sought Each Each_all
+    unfolding place part_place field_place Each Each_all
 
-    pub size_scoped : (j : ℕ) (t : Size) (h : Shape) → Each (Scoped In) j t → (n : ℕ) → sought fields (if_dim (At x)) (λ v h. None) t h ≡ Some n → In x
-    size_scoped j (Hole v) h a n e = none_no e
-    size_scoped j (Open k v u) h a n e = none_no e
-    size_scoped j (Level d t) (Array_shape k row) a n e = first_or (if_dim (At x) d k) (sought fields (if_dim (At x)) (λ v h. None) t row) n e (λ q. level_scoped j d k n (is_dim d (At x)) refl a.0 q) (λ q. size_scoped j t row a.1 n q)
-    size_scoped j (Level d t) h a n e = none_no e
-    size_scoped j (Built head.Tuple ts) (Tuple_shape hs) a n e = all_scoped j ts hs a n e
-    size_scoped j (Built head.Tuple ts) h a n e = none_no e
-    size_scoped j (Built (head.Record k) ts) (Record_shape hs) a n e = named_scoped j (fields k) ts hs a n e
-    size_scoped j (Built (head.Record k) ts) h a n e = none_no e
-    size_scoped j (Built g ts) h a n e = none_no e
-    size_scoped j (Fun c p r) h a n e = none_no e
+    pub size_scoped : (j : ℕ) (t : Size) → Each (Scoped In) j t → (p : Path) → size_place fields (At x) t ≡ Some p → In x
+    size_scoped j (Hole v) a p e = none_no e
+    size_scoped j (Open k v u) a p e = none_no e
+    size_scoped j (Level d t) a p e = level_scoped j d (size_place fields (At x) t) p (is_dim d (At x)) refl a.0 e (λ q i. size_scoped j t a.1 q i)
+    size_scoped j (Built head.Tuple ts) a p e = part_scoped j 0 ts a p e
+    size_scoped j (Built (head.Record k) ts) a p e = field_scoped j (fields k) ts a p e
+    size_scoped j (Built g ts) a p e = none_no e
+    size_scoped j (Fun c q r) a p e = none_no e
 
-    all_scoped : (j : ℕ) (ts : Sizes) (hs : Shapes) → Each_all (Scoped In) j ts → (n : ℕ) → all_sought fields (if_dim (At x)) (λ v h. None) ts hs ≡ Some n → In x
-    all_scoped j no_size hs a n e = none_no e
-    all_scoped j (size_and t ts) no_shape a n e = none_no e
-    all_scoped j (size_and t ts) (shape_and h hs) a n e = first_or (sought fields (if_dim (At x)) (λ v h. None) t h) (all_sought fields (if_dim (At x)) (λ v h. None) ts hs) n e (λ q. size_scoped j t h a.0 n q) (λ q. all_scoped j ts hs a.1 n q)
+    part_scoped : (j k : ℕ) (ts : Sizes) → Each_all (Scoped In) j ts → (p : Path) → part_place fields (λ d. is_dim d (At x)) (λ v. false) k ts ≡ Some p → In x
+    part_scoped j k no_size a p e = none_no e
+    part_scoped j k (size_and t ts) a p e = first_or (below (In_part k) (size_place fields (At x) t)) (part_place fields (λ d. is_dim d (At x)) (λ v. false) (suc k) ts) p e
+        (λ e. one_place (size_place fields (At x) t) (In_part k) p e (λ y z w. size_scoped j t a.0 y z)) (λ e. part_scoped j (suc k) ts a.1 p e)
 
-    named_scoped : (j : ℕ) (fs : List Text) (ts : Sizes) (hs : Named_shapes) → Each_all (Scoped In) j ts → (n : ℕ) → named_sought fields (if_dim (At x)) (λ v h. None) fs ts hs ≡ Some n → In x
-    named_scoped j [] no_size hs a n e = none_no e
-    named_scoped j (f ∷ fs) no_size hs a n e = none_no e
-    named_scoped j [] (size_and t ts) hs a n e = none_no e
-    named_scoped j (f ∷ fs) (size_and t ts) hs a n e =
-        first_or (on_some (field_shape f hs) (sought fields (if_dim (At x)) (λ v h. None) t)) (named_sought fields (if_dim (At x)) (λ v h. None) fs ts hs) n e
-        (λ q. let r = some_then (field_shape f hs) (sought fields (if_dim (At x)) (λ v h. None) t) n q in size_scoped j t r.0 a.0 n r.2)
-        (λ q. named_scoped j fs ts hs a.1 n q)
+    field_scoped : (j : ℕ) (fs : List Text) (ts : Sizes) → Each_all (Scoped In) j ts → (p : Path) → field_place fields (λ d. is_dim d (At x)) (λ v. false) fs ts ≡ Some p → In x
+    field_scoped j [] no_size a p e = none_no e
+    field_scoped j (f ∷ fs) no_size a p e = none_no e
+    field_scoped j [] (size_and t ts) a p e = none_no e
+    field_scoped j (f ∷ fs) (size_and t ts) a p e = first_or (below (In_field f) (size_place fields (At x) t)) (field_place fields (λ d. is_dim d (At x)) (λ v. false) fs ts) p e
+        (λ e. one_place (size_place fields (At x) t) (In_field f) p e (λ y z w. size_scoped j t a.0 y z)) (λ e. field_scoped j fs ts a.1 p e)
 
 module _ (N : Names) (fields : ℕ → List Text) (τ : Meant) (m : Worth) (φ : Frames) (are : Fields_are N fields) where
-  pub size_right : (x : Dim) (t : Size) (h : Shape) → Reads N τ m φ t h → (n : ℕ) → size_in fields x t h ≡ Some n → n ≡ number m φ x
-  size_right x t h k n e = sought_right N fields are τ m φ (λ n. n ≡ number m φ x) (if_dim x) (λ v h. None) (λ d n q. sized m φ x d n (is_dim d x) refl q) (λ v g n r q. none_no q) t h k n e
+  -- a size is worth what stands at its place, and a type variable stands for it
+  pub size_right : (x : Dim) (t : Size) (h : Shape) → Reads N τ m φ t h → (p : Path) → size_place fields x t ≡ Some p → size_of (at_path p h) ≡ number m φ x
+  size_right x t h k p e = placed_right N fields are τ m φ (λ g. size_of g ≡ number m φ x) (λ d. is_dim d x) (λ v. false) (λ d n row q r. r ∙ ap (number m φ) (dim_same d x q)) (λ v g q r. absurd (let z : false ≡ true = q in cc)) t h k p e
 
-  pub type_right : One_kind_each τ → (v : Variable) (t : Size) (h : Shape) → Reads N τ m φ t h → (g : Shape) → type_in fields v t h ≡ Some g → (τ v).shape g
-  type_right one v t h k g e = sought_right N fields are τ m φ (λ g. (τ v).shape g) (λ d n. None) (if_variable v) (λ d g q. none_no q) (λ w x g r q. shaped τ one v w x g (is_variable w v) refl r q) t h k g e
+  pub type_right : One_kind_each τ → (v : Variable) (t : Size) (h : Shape) → Reads N τ m φ t h → (p : Path) → type_place fields v t ≡ Some p → (τ v).shape (at_path p h)
+  type_right one v t h k p e = placed_right N fields are τ m φ (λ g. (τ v).shape g) (λ d. false) (λ w. is_variable w v) (λ d n row q r. absurd (let z : false ≡ true = q in cc)) (λ w g q r. one w v q g r) t h k p e
 
-  pub size_read : (d : Free) (t : Size) (h : Shape) → Well_formed fields t → Reads N τ m φ t h → stands t d ≡ true → size_in fields (At d) t h ≡ Some (free m d)
-  size_read d t h f k e =
-      let r = occurs_found N fields are τ m φ (λ n. n ≡ number m φ (At d)) (if_dim (At d)) (λ v h. None) (λ x n q. sized m φ (At d) x n (is_dim x (At d)) refl q) (λ v g n r q. none_no q) (λ x. is_dim x (At d) ≡ true) (λ v. ⊥)
-      (λ x n q. (n, ap (λ b. cond b (Some n) None) q)) (λ v g q. absurd q) t h (stands_occurs d t e) f k in
-      r.1 ∙ ap Some (size_right (At d) t h k r.0 r.1)
+module _ (fields : ℕ → List Text) where
+  -- and what stands in the type has a place
+  pub size_placed : (d : Free) (t : Size) → Well_formed fields t → stands t d ≡ true → (p : Path) × (size_place fields (At d) t ≡ Some p)
+  size_placed d t f e = has_place fields (λ x. is_dim x (At d)) (λ v. false) (λ x. is_dim x (At d) ≡ true) (λ v. ⊥) (λ x q. q) (λ v q. absurd q) t (stands_occurs d t e) f
 
-  pub size_found : (d : Free) (t : Size) (h : Shape) → Formed fields t → Has_shape N τ m φ t h → stands t d ≡ true → size_in fields (At d) t h ≡ Some (free m d)
-  size_found d t h f k e = size_read d t h (well_formed fields t f) (data_reads N τ m φ t h k) e
-
-  pub type_read : One_kind_each τ → (v : Variable) (t : Size) (h : Shape) → Well_formed fields t → Reads N τ m φ t h → has_hole t v ≡ true → (g : Shape) × (type_in fields v t h ≡ Some g) × (τ v).shape g
-  type_read one v t h f k e =
-      let r = occurs_found N fields are τ m φ (λ g. (τ v).shape g) (λ d n. None) (if_variable v) (λ d g q. none_no q) (λ w x g r q. shaped τ one v w x g (is_variable w v) refl r q) (λ d. ⊥) (λ w. is_variable v w ≡ true)
-      (λ d n q. absurd q) (λ w g q. (g, ap (λ b. cond b (Some g) None) (variable_back v w q))) t h (hole_occurs v t e) f k in
-      (r.0, r.1, type_right one v t h k r.0 r.1)
-
-  pub type_found : One_kind_each τ → (v : Variable) (t : Size) (h : Shape) → Formed fields t → Has_shape N τ m φ t h → has_hole t v ≡ true → (g : Shape) × (type_in fields v t h ≡ Some g) × (τ v).shape g
-  type_found one v t h f k e = type_read one v t h (well_formed fields t f) (data_reads N τ m φ t h k) e
+  pub type_placed : (v : Variable) (t : Size) → Well_formed fields t → has_hole t v ≡ true → (p : Path) × (type_place fields v t ≡ Some p)
+  type_placed v t f e = has_place fields (λ d. false) (λ w. is_variable w v) (λ d. ⊥) (λ w. is_variable v w ≡ true) (λ d q. absurd q) (λ w q. variable_back v w q) t (hole_occurs v t e) f
 
 pub found_is_right : FoundIsRight
-found_is_right N fields τ m φ t h are k = ((λ x n e. size_right N fields (exactly τ) m φ are x t h k n e), (λ one v g e. type_right N fields (exactly τ) m φ are (exact_kinds τ one) v t h k g e))
+found_is_right N fields τ m φ t h are k = ((λ x p e. size_right N fields (exactly τ) m φ are x t h k p e), (λ one v p e. type_right N fields (exactly τ) m φ are (exact_kinds τ one) v t h k p e))
 
 pub standing_is_found : StandingIsFound
-standing_is_found N fields τ m φ t h are f k = (
-  (λ d e. size_found N fields (exactly τ) m φ are d t h f k e),
-  (λ one v e. let r = type_found N fields (exactly τ) m φ are (exact_kinds τ one) v t h f k e in r.1 ∙ ap Some r.2),
-)
+standing_is_found fields t f = ((λ d e. size_placed fields d t (well_formed fields t f) e), (λ v e. type_placed fields v t (well_formed fields t f) e))
 
 pub told_is_right : ToldIsRight
 told_is_right N named fields τ m φ sizes shapes t are f d e = told_right N fields are (exactly τ) m φ named sizes shapes t f d e

@@ -15,7 +15,7 @@ use Rattle.fut_meaning.specs.Flats.{FlatValue, flat_names}
 use Rattle.fut_meaning.specs.Jobs.{Job, Done, done, job}
 use Rattle.fut_meaning.specs.Meaning.{plain, no_function, job_of, row_told, Of_function}
 use Rattle.fut_meaning.specs.Outcomes.{Out, Val, Wrong, Rel, the, gives, Then, and_then}
-use Rattle.fut_meaning.specs.Telling.{by_function, worth_of, value_shape, tells, function_tells, data_told, primitive_tells}
+use Rattle.fut_meaning.specs.Telling.{by_function, worth_of, value_shape, is_function, tells, function_tells, data_told, primitive_tells}
 use Rattle.fut_meaning.specs.Values.{Scalar_value, Tuple_value, Record_value, Array_value, Closure, Primitive_value, no_value, value_and}
 use Rattle.fut_meaning.proofs.Data.{datum_of_as}
 use Rattle.fut_meaning.proofs.Safe.{Every}
@@ -161,4 +161,62 @@ module _ (N : Names) (types : Sub) (τ : Meant) (W : World) (S : Sound N types W
     refl,
     λ dr low G g hg. subst (λ c. Has_shape N τ m (push G φ) r (by_function (function_tells W.sizing (value_and v no_value)) (primitive_tells p (cond c ((g, None) ∷ []) ((value_shape v, worth_of v) ∷ (g, None) ∷ []))))) (sym (not_function N types τ W S one m φ a v data_a hv))
         (law G (value_shape v) g (value_shaped N τ W.sizing (calls W) m φ a data_a v hv) hg),
+  )
+
+  -- ---- of three arguments
+  module _ (p : Primitive) (at : Place) (φ : Frames) (k l n : ℕ) (a b c r : Size) (data_a : Data a) (data_b : Data b) (data_c : Data c)
+      (starts : (Q : FlatValue → Type 0) (u : FlatValue) → Gives Q (gives 0 (Primitive_value p at (value_and u no_value))) → Gives Q (calls W (Primitive_value p at no_value) u))
+      (waits : (Q : FlatValue → Type 0) (u v : FlatValue) → Gives Q (gives 0 (Primitive_value p at (value_and u (value_and v no_value)))) → Gives Q (calls W (Primitive_value p at (value_and u no_value)) v))
+      (runs : (Q : FlatValue → Type 0) (u v w : FlatValue) → Gives Q (Runs p at (Data_three u v w)) → Gives Q (calls W (Primitive_value p at (value_and u (value_and v no_value))) w))
+      (jobs : (F G H : ℕ → ℕ) (row : Shape) (d e g : Datum) → Argument_is k F φ a d → Argument_is l G (push F φ) b e → Argument_is n H (push G (push F φ)) c g
+      → Gives (Given n H (push G (push F φ)) r) (Then (the (job false row p at (d ∷ e ∷ g ∷ []))) (job_of ((flat_names (told W)).lang W.tops) (plain W.tight) W.budget (means W) 0 no_function))) where
+    abbrev Three : (ℕ → ℕ) → (ℕ → ℕ) → (ℕ → ℕ) → List Datum → Type 0
+    Three F G H ds = (d : Datum) × (e : Datum) × (g : Datum) × (ds ≡ d ∷ e ∷ g ∷ []) × Argument_is k F φ a d × Argument_is l G (push F φ) b e × Argument_is n H (push G (push F φ)) c g
+
+    three_data : (F G H : ℕ → ℕ) (u v w : FlatValue) → Out_fits (Argument_is k F φ a) (datum_of u) → Out_fits (Argument_is l G (push F φ) b) (datum_of v) → Out_fits (Argument_is n H (push G (push F φ)) c) (datum_of w) → Out_fits (Three F G H) (Data_three u v w)
+    three_data F G H u v w x y z = out_then (Argument_is k F φ a) (Three F G H) (datum_of u) _ x
+        (λ d hd. out_then (λ ds. (e : Datum) × (g : Datum) × (ds ≡ e ∷ g ∷ []) × Argument_is l G (push F φ) b e × Argument_is n H (push G (push F φ)) c g) (Three F G H) (Data_two v w) (λ ds. Val (d ∷ ds))
+        (out_then (Argument_is l G (push F φ) b) (λ ds. (e : Datum) × (g : Datum) × (ds ≡ e ∷ g ∷ []) × Argument_is l G (push F φ) b e × Argument_is n H (push G (push F φ)) c g) (datum_of v) _ y
+        (λ e he. out_then (λ ds. (g : Datum) × (ds ≡ g ∷ []) × Argument_is n H (push G (push F φ)) c g) (λ ds. (e : Datum) × (g : Datum) × (ds ≡ e ∷ g ∷ []) × Argument_is l G (push F φ) b e × Argument_is n H (push G (push F φ)) c g) (Data_one w) (λ ds. Val (e ∷ ds))
+        (out_then (Argument_is n H (push G (push F φ)) c) (λ ds. (g : Datum) × (ds ≡ g ∷ []) × Argument_is n H (push G (push F φ)) c g) (datum_of w) _ z (λ g hg. (g, refl, hg)))
+        (λ ds q. (e, q.0, ap (λ xs. e ∷ xs) q.1, he, q.2))))
+        (λ ds q. (d, q.0, q.1, ap (λ xs. d ∷ xs) q.2, hd, q.3, q.4)))
+
+    three_gives : (F : ℕ → ℕ) (u : FlatValue) → F k ≡ word u → Fits N τ W.sizing (calls W) m (push F φ) a u → (G : ℕ → ℕ) (v : FlatValue) → G l ≡ word v → Fits N τ W.sizing (calls W) m (push G (push F φ)) b v
+        → (H : ℕ → ℕ) (w : FlatValue) → H n ≡ word w → Fits N τ W.sizing (calls W) m (push H (push G (push F φ))) c w → Gives (Given n H (push G (push F φ)) r) (calls W (Primitive_value p at (value_and u (value_and v no_value))) w)
+    three_gives F u eu hu G v ev hv H w ew hw = runs (Given n H (push G (push F φ)) r) u v w
+        (gives_then (Three F G H) (Given n H (push G (push F φ)) r) _ _
+        (gives_exact (Three F G H) 0 (Data_three u v w) (three_data F G H u v w (argument_out k F φ a u data_a eu hu) (argument_out l G (push F φ) b v data_b ev hv) (argument_out n H (push G (push F φ)) c w data_c ew hw)))
+        (λ ds q. subst (λ z. Gives (Given n H (push G (push F φ)) r) (Then (the (job false (row_told ((flat_names (told W)).lang W.tops) (Of_function p no_function z)) p at z)) (job_of ((flat_names (told W)).lang W.tops) (plain W.tight) W.budget (means W) 0 no_function))) (sym q.3)
+        (jobs F G H _ q.0 q.1 q.2 q.4 q.5 q.6)))
+
+    pub three_fits : ((F : ℕ → ℕ) (u : FlatValue) → F k ≡ word u → Fits N τ W.sizing (calls W) m (push F φ) a u → (G : ℕ → ℕ) (v : FlatValue) → G l ≡ word v → Fits N τ W.sizing (calls W) m (push G (push F φ)) b v → Tells_right N τ W.sizing m (push G (push F φ)) n c r (Primitive_value p at (value_and u (value_and v no_value))))
+        → Fits N τ W.sizing (calls W) m φ (Fun k a (Fun l b (Fun n c r))) (Primitive_value p at no_value)
+    unfolding Fits Data
+    three_fits t = (
+      (refl, λ dr. absurd dr),
+      λ F u eu hu. starts (λ x. (F' : ℕ → ℕ) × ((i : ℕ) → i ≤ k → F' i ≡ F i) × Fits N τ W.sizing (calls W) m (push F' φ) (Fun l b (Fun n c r)) x) u
+          (gives_exact (λ x. (F' : ℕ → ℕ) × ((i : ℕ) → i ≤ k → F' i ≡ F i) × Fits N τ W.sizing (calls W) m (push F' φ) (Fun l b (Fun n c r)) x) 0 (Val (Primitive_value p at (value_and u no_value))) (
+            F,
+            (λ i l. refl),
+            (
+              (refl, λ dr. absurd dr),
+              λ G v ev hv. waits (λ x. (G' : ℕ → ℕ) × ((i : ℕ) → i ≤ l → G' i ≡ G i) × Fits N τ W.sizing (calls W) m (push G' (push F φ)) (Fun n c r) x) u v
+                  (gives_exact (λ x. (G' : ℕ → ℕ) × ((i : ℕ) → i ≤ l → G' i ≡ G i) × Fits N τ W.sizing (calls W) m (push G' (push F φ)) (Fun n c r) x) 0 (Val (Primitive_value p at (value_and u (value_and v no_value))))
+                  (G, (λ i l. refl), (t F u eu hu G v ev hv, λ H w ew hw. three_gives F u eu hu G v ev hv H w ew hw))),
+            ),
+          )),
+    )
+
+  -- what one tells that has its first two arguments, from the shapes of all
+  pub third_tells : (p : Primitive) (at : Place) (φ ψ χ : Frames) (l : ℕ) (a b c r : Size) (u v : FlatValue) → Data a → Data b → Fits N τ W.sizing (calls W) m ψ a u → Fits N τ W.sizing (calls W) m χ b v
+      → ((G : ℕ → ℕ) (h g k : Shape) → Has_shape N τ m ψ a h → Has_shape N τ m χ b g → Has_shape N τ m (push G φ) c k → Has_shape N τ m (push G φ) r (by_function (function_tells W.sizing (value_and u (value_and v no_value))) (primitive_tells p ((h, worth_of u) ∷ (g, worth_of v) ∷ (k, None) ∷ []))))
+      → Tells_right N τ W.sizing m φ l c r (Primitive_value p at (value_and u (value_and v no_value)))
+  unfolding tells data_told
+  third_tells p at φ ψ χ l a b c r u v data_a data_b hu hv law = (
+    refl,
+    λ dr low G k hk.
+        subst (λ x. Has_shape N τ m (push G φ) r (by_function (function_tells W.sizing (value_and u (value_and v no_value))) (primitive_tells p (cond x (cond (is_function v) ((k, None) ∷ []) ((value_shape v, worth_of v) ∷ (k, None) ∷ [])) ((value_shape u, worth_of u) ∷ cond (is_function v) ((k, None) ∷ []) ((value_shape v, worth_of v) ∷ (k, None) ∷ [])))))) (sym (not_function N types τ W S one m ψ a u data_a hu))
+        (subst (λ x. Has_shape N τ m (push G φ) r (by_function (function_tells W.sizing (value_and u (value_and v no_value))) (primitive_tells p ((value_shape u, worth_of u) ∷ cond x ((k, None) ∷ []) ((value_shape v, worth_of v) ∷ (k, None) ∷ []))))) (sym (not_function N types τ W S one m χ b v data_b hv))
+        (law G (value_shape u) (value_shape v) k (value_shaped N τ W.sizing (calls W) m ψ a data_a u hu) (value_shaped N τ W.sizing (calls W) m χ b data_b v hv) hk)),
   )

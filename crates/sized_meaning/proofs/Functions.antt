@@ -1,5 +1,5 @@
 -- Functions written in a term are of their sized types.
-use Rattle.std.specs.Prelude.{ℤ}
+use Rattle.std.specs.Prelude.{ℤ, pos}
 use Rattle.std.proofs.Common.{◌≡◌, ◌⊎◌, ℕ, ◌+◌, ◌-◌, ◌<◌, ◌≤◌, suc, List, [], ◌∷◌, Bool, true, false, cond, nat_eq, Option, Some, None, refl, sym, ap, ◌∙◌, subst, arith, inl, inr, eq-eqb, eqb-true}
 use Rattle.std.proofs.lemmas.Bool.{eqb-false}
 use Rattle.fut_scalar.specs.declared.place.BindId.{BindId}
@@ -12,7 +12,8 @@ use Rattle.fut_typing.specs.Names.{Names}
 use Rattle.fut_value.specs.Data.{Shape}
 use Rattle.fut_meaning.specs.Accessors.{bound}
 use Rattle.fut_meaning.specs.Flats.{FlatValue, FlatEnv}
-use Rattle.fut_meaning.specs.Found.{Found, as_integer, size_in, type_in, result_shape, number, shape_found, told_shape, with_data}
+use Rattle.fut_meaning.specs.Places.{size_place, type_place, size_of, at_path}
+use Rattle.fut_meaning.specs.Found.{Found, result_shape, number, shape_found, told_shape, with_data}
 use Rattle.fut_meaning.specs.Telling.{found, closure_tells, tells}
 use Rattle.fut_meaning.specs.Outcomes.{Val}
 use Rattle.fut_meaning.specs.Values.{Closure, Evaluate, Call}
@@ -35,11 +36,11 @@ use Rattle.sized_meaning.proofs.Ways.{gives_as}
 use Rattle.sized_meaning.proofs.Outcomes.{gives_exact, gives_then}
 use Rattle.sized_meaning.proofs.Reading.{each_and, each_replaced, each_as, each_data, each_hole_as, data_replaced, shape_same, shape_opened, opened_shape, shape_renamed_in, fits_same, fits_opened, opened_fits, fits_renamed}
 use Rattle.sized_meaning.proofs.Suiting.{a_function}
-use Rattle.sized_meaning.proofs.Finding.{some_same, none_no, data_formed, data_reads, size_found, type_found}
+use Rattle.sized_meaning.proofs.Finding.{some_same, none_no, some_place, some_else, data_formed, data_reads, size_placed, type_placed}
 use Rattle.sized_meaning.proofs.Datas.{shaped_data}
 use Rattle.sized_meaning.proofs.Entered.{data_right, told_found}
 use Rattle.sized_meaning.proofs.Applications.{evaluates}
-use Rattle.sized_meaning.proofs.Environments.{some_first, some_later, outside_narrower, apart, env_moves, env_positions}
+use Rattle.sized_meaning.proofs.Environments.{outside_narrower, apart, env_moves, env_positions}
 use Rattle.sized_meaning.proofs.Patterns.{among_first, among_later, named_by, others_keep, Names_worth, names_inside, beyond_unnamed, names_worth, nodes_away, enters}
 use Rattle.sized_meaning.proofs.Lets.{names_leave}
 
@@ -354,8 +355,8 @@ module _ (N : Names) (types : Sub) (τ : Meant) (W : World) (S : Sound N types W
       data_from = (data_replaced (given B.inside) B.from 1).1 (subst Data B.parameter data_taken)
 
       size_known : (d : Free) → (stands (s q) d ≡ true) ⊎ (G.finds d ≡ true) → (n : ℤ) × (V.size d ≡ Some n)
-      size_known d (inl e) = some_first (as_integer (size_in W.sizing.fields (At d) (s q) h)) ((found W.sizing env).size d) (_, ap as_integer (size_found N W.sizing.fields τ (placed_as B.position F m) no_frames S.fields d (s q) h (data_formed W.sizing.fields (s q) data_taken (S.formed q)) (shape_taken h hx) e))
-      size_known d (inr e) = some_later (as_integer (size_in W.sizing.fields (At d) (s q) h)) ((found W.sizing env).size d) (E.finds d e)
+      size_known d (inl e) = some_place (size_place W.sizing.fields (At d) (s q)) (λ p. pos (size_of (at_path p h))) ((found W.sizing env).size d) (size_placed W.sizing.fields d (s q) (S.formed q) e)
+      size_known d (inr e) = some_else (size_place W.sizing.fields (At d) (s q)) (λ p. pos (size_of (at_path p h))) ((found W.sizing env).size d) (E.finds d e)
 
       dim_known : (d : Dim) → Scoped (Tells_size N types W.sizing.size_at W.sizing.home q G) 0 d → Is_found V d
       dim_known (At (Const c)) w = tt
@@ -366,8 +367,8 @@ module _ (N : Names) (types : Sub) (τ : Meant) (W : World) (S : Sound N types W
       dim_known (Bound k i) w = absurd (omega (arith, w))
 
       type_known : (a : Variable) → (has_hole (s q) a ≡ true) ⊎ (G.finds_types a ≡ true) → Type_is_found V a
-      type_known a (inl e) = let r = type_found N W.sizing.fields τ (placed_as B.position F m) no_frames S.fields one a (s q) h (data_formed W.sizing.fields (s q) data_taken (S.formed q)) (shape_taken h hx) e in some_first (type_in W.sizing.fields a (s q) h) ((found W.sizing env).type a) (r.0, r.1)
-      type_known a (inr e) = some_later (type_in W.sizing.fields a (s q) h) ((found W.sizing env).type a) (E.finds_types a e)
+      type_known a (inl e) = some_place (type_place W.sizing.fields a (s q)) (λ p. at_path p h) ((found W.sizing env).type a) (type_placed W.sizing.fields a (s q) (S.formed q) e)
+      type_known a (inr e) = some_else (type_place W.sizing.fields a (s q)) (λ p. at_path p h) ((found W.sizing env).type a) (E.finds_types a e)
 
       told_body : (t : Size) → Data t → Well_formed W.sizing.fields t → Each (Scoped (Tells_size N types W.sizing.size_at W.sizing.home q G)) 0 t → Each_hole (Tells_type N types W.sizing.size_at W.sizing.home q G) t
           → Has_shape N τ (placed_as B.position F m) no_frames t (told_shape W.sizing.fields (number V) (shape_found V) t)
@@ -440,16 +441,16 @@ module _ (N : Names) (types : Sub) (τ : Meant) (W : World) (S : Sound N types W
   still_there lo parts m (Slot i) o = refl
 
   -- a function's type names no part of a parameter
-  takes_unnamed : (body : Context → Type 0) (parts : List ℕ) (ps : Patterns Ref BindId) (lo q at hi : ℕ) (u : Size) (G : Context) → All_simple W.sizing parts ps q → Takes N types W.sizing.size_at W.sizing.home body parts ps lo q at hi u G → (j : ℕ) → Each (λ j d. names_one parts d ≡ false) j u
+  takes_unnamed : (body : Context → Type 0) (parts : List ℕ) (ps : Patterns Ref BindId) (lo q at hi : ℕ) (u : Size) (G : Context) → Takes N types W.sizing.size_at W.sizing.home body parts ps lo q at hi u G → (j : ℕ) → Each (λ j d. names_one parts d ≡ false) j u
   unfolding Each
-  takes_unnamed body parts no_pattern lo q at hi u G simple h j = subst (Each (λ j d. names_one parts d ≡ false) j) (sym h.1) (cleared lo parts (s at) j 0)
-  takes_unnamed body parts (pattern_and p ps) lo q at hi u G simple h j =
+  takes_unnamed body parts no_pattern lo q at hi u G h j = subst (Each (λ j d. names_one parts d ≡ false) j) (sym h.1) (cleared lo parts (s at) j 0)
+  takes_unnamed body parts (pattern_and p ps) lo q at hi u G h j =
       let B = h.0 in
       let P : Dim → Type 0 = λ d. names_one parts d ≡ false in
       let from_part = each_as (λ j d. (names_one parts d ≡ false) × Of_positions (λ i. names_one parts (At (B.inside i)) ≡ false) j d) (λ j d. names_one parts d ≡ false) (λ j d e. e.0) B.from 1
-      (unnamed_inside parts B.inside B.from (subst (Each (λ j d. names_one parts d ≡ false) 1) B.parameter (unnamed_each parts (s q) 1 simple.1))) in
+      (unnamed_inside parts B.inside B.from (subst (Each (λ j d. names_one parts d ≡ false) 1) B.parameter (unnamed_each parts (s q) 1 h.1))) in
       let to_part = each_as (λ j d. (names_one parts d ≡ false) × Of_positions (λ i. names_one parts (At (B.inside i)) ≡ false) j d) (λ j d. names_one parts d ≡ false) (λ j d e. e.0) B.to 1
-      (unnamed_inside parts B.inside B.to (takes_unnamed body parts ps lo (q + pattern_numbers p) at hi (opened B.inside B.to) (with_pattern W.sizing.size_at p q (with_positions B.position G)) simple.2 h.2 1)) in
+      (unnamed_inside parts B.inside B.to (takes_unnamed body parts ps lo (q + pattern_numbers p) at hi (opened B.inside B.to) (with_pattern W.sizing.size_at p q (with_positions B.position G)) h.3 1)) in
       subst (Each (λ j d. names_one parts d ≡ false) j) (sym B.function) (each_shift (λ d. names_one parts d ≡ false) B.from 1 (suc j) from_part, each_shift (λ d. names_one parts d ≡ false) B.to 1 (suc j) to_part)
 
   -- one that waits for more arguments
@@ -501,24 +502,24 @@ module _ (N : Names) (types : Sub) (τ : Meant) (W : World) (S : Sound N types W
   unfolding Data
   no_function_data k p r d = d
 
-  pub closure_fits : (ps : Patterns Ref BindId) (p : FlatPattern) (e : FlatTerm) (parts : List ℕ) (lo q at hi : ℕ) (u : Size) (G : Context) (env : FlatEnv) (m : Worth) → All_simple W.sizing parts (pattern_and p ps) q → ((c : ℕ) → is_among parts c ≡ false → is_among (all_part_names (pattern_and p ps)) c ≡ false) → Leaves N types W parts lo at → 1 + lo ≤ q → q + (pattern_numbers p + all_pattern_numbers ps) ≡ at → at ≤ hi → Body_law e at hi
+  pub closure_fits : (ps : Patterns Ref BindId) (p : FlatPattern) (e : FlatTerm) (parts : List ℕ) (lo q at hi : ℕ) (u : Size) (G : Context) (env : FlatEnv) (m : Worth) → All_simple W.sizing (pattern_and p ps) q → ((c : ℕ) → is_among parts c ≡ false → is_among (all_part_names (pattern_and p ps)) c ≡ false) → Leaves N types W parts lo at → 1 + lo ≤ q → q + (pattern_numbers p + all_pattern_numbers ps) ≡ at → at ≤ hi → Body_law e at hi
       → Takes N types W.sizing.size_at W.sizing.home (Sized N types W.sizing.size_at W.sizing.home e at) parts (pattern_and p ps) lo q at hi u G → Env_of q hi m G env → Of m u (Closure (pattern_and p ps) e at env)
-  closure_fits no_pattern p e parts lo q at hi u G env m simple sub leaves before z le body (B, telling, (inside_parameter, same, sized)) E =
+  closure_fits no_pattern p e parts lo q at hi u G env m simple sub leaves before z le body (B, unnamed, telling, (inside_parameter, same, sized)) E =
       let node : at - (pattern_numbers p + 0) ≡ q = omega (arith, z) in
       let first : (c : ℕ) → is_among parts c ≡ false → is_among (part_names p) c ≡ false = λ c e. among_first (part_names p) [] c (sub c e) in
-      let apart_to : Each (λ j d. names_one parts d ≡ false) 1 (opened B.inside B.to) = takes_unnamed (Sized N types W.sizing.size_at W.sizing.home e at) parts no_pattern lo (q + pattern_numbers p) at hi (opened B.inside B.to) (with_pattern W.sizing.size_at p q (with_positions B.position G)) tt (inside_parameter, same, sized) 1 in
+      let apart_to : Each (λ j d. names_one parts d ≡ false) 1 (opened B.inside B.to) = takes_unnamed (Sized N types W.sizing.size_at W.sizing.home e at) parts no_pattern lo (q + pattern_numbers p) at hi (opened B.inside B.to) (with_pattern W.sizing.size_at p q (with_positions B.position G)) (inside_parameter, same, sized) 1 in
       subst (λ x. Of m x (Closure (pattern_and p no_pattern) e at env)) (sym B.function)
       (a_function N τ W.sizing (calls W) m B.chosen B.from B.to (Closure (pattern_and p no_pattern) e at env) (refl, λ dr names_low F h hx. last_tells p e parts lo q at hi u G env m (omega (arith, z)) le before B telling same E node dr names_low F h hx)
       (λ F v eF h. evaluates N types τ W S one (Given_back lo at hi p q u B (omega (arith, z)) le m F) (Call (Closure (pattern_and p no_pattern) e at env) v)
       (gives_then (λ x. Env_of (q + pattern_numbers p) hi (parts_by p v (placed_as B.position F m)) (with_pattern W.sizing.size_at p q (with_positions B.position G)) x) (Given_back lo at hi p q u B (omega (arith, z)) le m F) _ _
-      (gives_exact _ 0 _ (entered_fits lo at hi p q u B (omega (arith, z)) le m F G env v simple.0 E eF h (at - all_pattern_numbers (pattern_and p no_pattern)) node parts first simple.1))
+      (gives_exact _ 0 _ (entered_fits lo at hi p q u B (omega (arith, z)) le m F G env v simple.0 E eF h (at - all_pattern_numbers (pattern_and p no_pattern)) node parts first unnamed))
       (λ x E'. gives_as (R_of at hi (parts_by p v (placed_as B.position F m)) (s at)) (Given_back lo at hi p q u B (omega (arith, z)) le m F) (means W (Evaluate x at e))
       (body (with_pattern W.sizing.size_at p q (with_positions B.position G)) x (parts_by p v (placed_as B.position F m)) sized (env_moves N types τ W (q + pattern_numbers p) hi at hi (parts_by p v (placed_as B.position F m)) (parts_by p v (placed_as B.position F m)) (with_pattern W.sizing.size_at p q (with_positions B.position G)) x (omega (arith, z)) (omega arith) (λ d o. refl) E'))
       (λ w r. let y = parts_leave lo at hi parts (parts_by p v (placed_as B.position F m)) w (omega (arith, before, z)) le leaves r in
       back lo at hi p q u B (omega (arith, z)) le m F before parts first v y.0 y.1 w apart_to (subst (λ x. Of y.0 x w) (sym same) y.2))))))
-  closure_fits (pattern_and p2 ps) p e parts lo q at hi u G env m simple sub leaves before z le body (B, told, more) E =
+  closure_fits (pattern_and p2 ps) p e parts lo q at hi u G env m simple sub leaves before z le body (B, unnamed, told, more) E =
       let node : at - (pattern_numbers p + (pattern_numbers p2 + all_pattern_numbers ps)) ≡ q = omega (arith, z) in
       let first : (c : ℕ) → is_among parts c ≡ false → is_among (part_names p) c ≡ false = λ c e. among_first (part_names p) (all_part_names (pattern_and p2 ps)) c (sub c e) in
-      waits_fits ps p p2 e parts lo q at hi u G env m (omega (arith, z)) le before B (λ d. no_function_data _ _ _ (subst Data more.0.function ((data_replaced (given B.inside) B.to 1).0 d))) simple.0 E node first simple.1
-      (takes_unnamed (Sized N types W.sizing.size_at W.sizing.home e at) parts (pattern_and p2 ps) lo (q + pattern_numbers p) at hi (opened B.inside B.to) (with_pattern W.sizing.size_at p q (with_positions B.position G)) simple.2 more 1)
-      (λ F v x E'. closure_fits ps p2 e parts lo (q + pattern_numbers p) at hi (opened B.inside B.to) (with_pattern W.sizing.size_at p q (with_positions B.position G)) x (parts_by p v (placed_as B.position F m)) simple.2 (λ c e. among_later (part_names p) (all_part_names (pattern_and p2 ps)) c (sub c e)) leaves (omega (arith, before)) (omega (arith, z)) le body more E')
+      waits_fits ps p p2 e parts lo q at hi u G env m (omega (arith, z)) le before B (λ d. no_function_data _ _ _ (subst Data more.0.function ((data_replaced (given B.inside) B.to 1).0 d))) simple.0 E node first unnamed
+      (takes_unnamed (Sized N types W.sizing.size_at W.sizing.home e at) parts (pattern_and p2 ps) lo (q + pattern_numbers p) at hi (opened B.inside B.to) (with_pattern W.sizing.size_at p q (with_positions B.position G)) more 1)
+      (λ F v x E'. closure_fits ps p2 e parts lo (q + pattern_numbers p) at hi (opened B.inside B.to) (with_pattern W.sizing.size_at p q (with_positions B.position G)) x (parts_by p v (placed_as B.position F m)) simple.1 (λ c e. among_later (part_names p) (all_part_names (pattern_and p2 ps)) c (sub c e)) leaves (omega (arith, before)) (omega (arith, z)) le body more E')

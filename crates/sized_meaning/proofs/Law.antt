@@ -1,5 +1,6 @@
 -- Each value that a sized term may give is of its sized type.
-use Rattle.std.proofs.Common.{◌≡◌, ◌⊎◌, ℕ, ◌+◌, ◌≤◌, List, [], ◌∷◌, Bool, true, false, cond, Option, Some, None, Ok, refl, sym, ◌∙◌, subst, arith, inl, inr}
+use Rattle.sized_meaning.proofs.Reading.{fits_same, each_as, each_hole_as}
+use Rattle.std.proofs.Common.{◌≡◌, ◌⊎◌, ℕ, ◌+◌, ◌≤◌, List, [], ◌∷◌, Bool, true, false, cond, Some, Ok, refl, sym, ◌∙◌, subst, arith, inl, inr}
 use Rattle.fut_scalar.specs.declared.place.BindId.{BindId}
 use Rattle.fut_scalar.specs.declared.place.Place.{Place}
 use Rattle.fut_flat.specs.declared.prim.Ref.{Ref}
@@ -24,22 +25,23 @@ use Rattle.fut_meaning.specs.Meaning.{placed, plain, row_told, fits_type, Of_lit
 use Rattle.fut_meaning.specs.Operations.{report, operated}
 use Rattle.fut_meaning.specs.Outcomes.{Val, Rel, and_then, the, Then, choose, each_of, turns, while_turns}
 use Rattle.fut_meaning.specs.Values.{Scalar_value, Closure, bind, entered, Evaluate, values}
-use Rattle.sized_types.specs.Sizes.{Free, Const, Name, Own, Unknown, Slot, Dim, Size, Level, Sizes, no_size, size_and, renamed}
+use Rattle.sized_types.specs.Sizes.{Free, Const, Name, Own, Unknown, Slot, Dim, Size, Level, Sizes, no_size, size_and, renamed, At, Bound, Variable, Hole}
 use Rattle.fut_sizes.specs.Agreeing.{is_among}
 use Rattle.fut_sizes.specs.Operations.{operation}
 use Rattle.fut_sizes.specs.Scopes.{i64_size, names}
 use Rattle.fut_sizes.specs.Scoping.{Context, with_name, with_size_names, with_pattern}
 use Rattle.fut_sizes.specs.Sizing.{all_part_names, bind_ids, row_of}
-use Rattle.fut_sizes.specs.Suiting.{Each, Scoped, Data, Suits}
-use Rattle.fut_sizes.specs.Rules.{taken_by, Away, Pattern_takes, Filled_use, part_sizes, Let_sized, Loops, Branches, General_form, Generalised, with_general, counter, Sized, All_sized, Turns_sized}
+use Rattle.fut_sizes.specs.Suiting.{Each, Scoped, Data, Suits, Free_of}
+use Rattle.fut_sizes.specs.Rules.{taken_by, Away, Pattern_takes, Filled_use, part_sizes, Let_sized, Loops, Branches, General_form, Generalised, with_general, counter, Sized, All_sized, Turns_sized, For_each_choice}
 use Rattle.sized_meaning.specs.Worth.{Worth, no_frames}
 use Rattle.sized_meaning.specs.Shapes.{Meant, exactly, Has_datum}
 use Rattle.sized_meaning.specs.Finding.{One_kind_each}
 use Rattle.sized_meaning.specs.Fits.{Out_fits, Gives, Fits, All_fit}
-use Rattle.sized_meaning.specs.Law.{Sound, Name_home, Simple, Nodes_away, Sizes_apart, No_lambda, Plain_operation, Plain_term, Plain_terms, Plain_turns, World, told, means, calls, Beyond as Out_beyond, Env_fits, Result as Res, ValuesHaveTheirSizes}
+use Rattle.sized_meaning.specs.Law.{Sound, Name_home, Simple, Nodes_away, Sizes_apart, No_lambda, Plain_operation, Plain_term, Plain_terms, Plain_turns, World, told, means, calls, Beyond as Out_beyond, Env_fits, Result as Res, ValuesHaveTheirSizes, Named_size, One_type, Single}
 use Rattle.sized_meaning.proofs.Ways.{gives_as}
+use Rattle.sized_meaning.proofs.Words.{nothing_filled, Part_values, part_value, part_words}
 use Rattle.sized_meaning.proofs.Outcomes.{gives_exact, gives_then, gives_all, gives_more, out_of}
-use Rattle.sized_meaning.proofs.Suiting.{at_node, suits_fits}
+use Rattle.sized_meaning.proofs.Suiting.{at_node, suits_fits, node_else, instance_fits}
 use Rattle.sized_meaning.proofs.Finding.{exact_kinds}
 use Rattle.sized_meaning.proofs.Operations.{operation_fits}
 use Rattle.fut_meaning.specs.Operations.{primitive_use}
@@ -47,20 +49,12 @@ use Rattle.sized_meaning.proofs.Primitives.{primitive_fits}
 use Rattle.sized_meaning.proofs.Applications.{evaluates, Worth_of, argument_worth, called, together}
 use Rattle.sized_meaning.proofs.Functions.{closure_fits, Body_law}
 use Rattle.sized_meaning.proofs.Patterns.{kept, named_by, nodes_away}
-use Rattle.sized_meaning.proofs.Lets.{taking, Taken_value, taken_env, let_result}
+use Rattle.sized_meaning.proofs.Lets.{taking, Taken_value, taken_env, let_result, general_env, names_leave}
 use Rattle.sized_meaning.proofs.Loops.{Loop_known, Turn_now, each_lacking, gives_turns, gives_while, starts, ends, while_turn, counted_turn, row_turn, scalar_is, counted_type, any_counts, rows_out, row_apart, row_formed}
 use Rattle.sized_meaning.proofs.Branches.{same_form, all_of, first_branch, second_branch}
 use Rattle.sized_meaning.proofs.Alike.{Alike, alike_fits}
 use Rattle.sized_meaning.proofs.Scalars.{out_any}
 use Rattle.sized_meaning.proofs.Environments.{beyond_node, outside_narrower, away_narrower, fits_away, env_moves}
-
-is_none : Option Size → Type 0
-is_none None = Unit {0}
-is_none (Some t) = ⊥
-
-none_some : (o : Option Size) (t : Size) → o ≡ None → o ≡ Some t → ⊥
-unfolding is_none
-none_some o t a b = subst (λ x. is_none x) b (subst (λ x. is_none x) (sym a) tt)
 
 module _ (N : Names) (types : Sub) (τ : Meant) (W : World) (S : Sound N types W.sizing) (one : One_kind_each τ) where
   abbrev s : ℕ → Size
@@ -123,14 +117,16 @@ module _ (N : Names) (types : Sub) (τ : Meant) (W : World) (S : Sound N types W
   -- an operation behind its parts
   strict_gives : (o : Operation Ref BindId) (mark : Place) (ts : Terms Ref BindId) (lo : ℕ) (G : Context) (env : FlatEnv) (vs : List FlatValue) → Plain_operation N types W o lo ts
       → operation N types o lo (lo + own_numbers o) ts (part_sizes N types W.sizing.size_at W.sizing.home ts (lo + own_numbers o)) ≡ Ok (s lo)
-      → All_parts (lo + own_numbers o) (lo + own_numbers o + all_numbers ts) G env (part_sizes N types W.sizing.size_at W.sizing.home ts (lo + own_numbers o)) vs
+      → All_sized N types W.sizing.size_at W.sizing.home ts (lo + own_numbers o) (lo + own_numbers o + all_numbers ts) G
+      → All_parts (lo + own_numbers o) (lo + own_numbers o + all_numbers ts) G env (part_sizes N types W.sizing.size_at W.sizing.home ts (lo + own_numbers o)) vs × Part_values N types τ W S one env ts (lo + own_numbers o) vs
       → Gives (All_results lo (lo + own_numbers o + all_numbers ts) G env (s lo)) (Operated_at o mark lo env vs)
-  strict_gives o mark ts lo G env vs p e k = gives_all (λ w v. R_of lo (lo + own_numbers o + all_numbers ts) w.0 (s lo) v) (Operated_at o mark lo env vs) (λ w.
+  strict_gives o mark ts lo G env vs p e sized k = gives_all (λ w v. R_of lo (lo + own_numbers o + all_numbers ts) w.0 (s lo) v) (Operated_at o mark lo env vs) (λ w.
       let at : ℕ = lo + own_numbers o in
       let hi : ℕ = lo + own_numbers o + all_numbers ts in
       let some = own_some o in
-      let x = k (w.0, env_moves N types τ W lo hi at hi w.0 w.0 G env (omega arith) (omega arith) (λ d o. refl) w.1) in
-      gives_as (R_of lo (1 + lo) x.now (s lo)) (R_of lo hi w.0 (s lo)) (Operated_at o mark lo env vs) (operation_fits N types τ W S one o mark ts lo env x.now vs p x.fits e)
+      let E = env_moves N types τ W lo hi at hi w.0 w.0 G env (omega arith) (omega arith) (λ d o. refl) w.1 in
+      let x = k.0 (w.0, E) in
+      gives_as (R_of lo (1 + lo) x.now (s lo)) (R_of lo hi w.0 (s lo)) (Operated_at o mark lo env vs) (operation_fits N types τ W S one o mark ts lo env x.now vs p (part_words N types τ W S one at hi G env w.0 x.now E x.old ts at hi vs sized k.1) x.fits e)
       (λ v r. record { now = r.now; old = λ d q. r.old d (outside_narrower N types τ W lo hi lo (1 + lo) (omega arith) (omega (arith, some)) d q) ∙ x.old d (outside_narrower N types τ W lo hi at hi (omega arith) (omega arith) d q); fits = r.fits }))
 
   -- ---- branches
@@ -181,7 +177,7 @@ module _ (N : Names) (types : Sub) (τ : Meant) (W : World) (S : Sound N types W
   Law t = (lo : ℕ) (G : Context) (env : FlatEnv) → Plain_term N types W t lo → Sized N types W.sizing.size_at W.sizing.home t lo G → Gives (All_results lo (lo + numbers t) G env (s lo)) (means W (Evaluate env lo t))
 
   abbrev All_law : Terms Ref BindId → Type 0
-  All_law ts = (lo hi : ℕ) (G : Context) (env : FlatEnv) → lo + all_numbers ts ≡ hi → Plain_terms N types W ts lo → All_sized N types W.sizing.size_at W.sizing.home ts lo hi G → Gives (All_parts lo hi G env (part_sizes N types W.sizing.size_at W.sizing.home ts lo)) (each_of (λ t. means W (Evaluate env t.0 t.1)) (placed lo ts))
+  All_law ts = (lo hi : ℕ) (G : Context) (env : FlatEnv) → lo + all_numbers ts ≡ hi → Plain_terms N types W ts lo → All_sized N types W.sizing.size_at W.sizing.home ts lo hi G → Gives (λ vs. All_parts lo hi G env (part_sizes N types W.sizing.size_at W.sizing.home ts lo) vs × Part_values N types τ W S one env ts lo vs) (each_of (λ t. means W (Evaluate env t.0 t.1)) (placed lo ts))
 
   body_law : (e : FlatTerm) (at hi : ℕ) → at + numbers e ≡ hi → Plain_term N types W e at → Law e → Body_law N types τ W S one e at hi
   body_law e at hi z plain law G env m sized E = subst (λ h. Env_of at h m G env → Gives (R_of at h m (s at)) (means W (Evaluate env at e))) z (λ E'. gives_as (All_results at (at + numbers e) G env (s at)) (R_of at (at + numbers e) m (s at)) (means W (Evaluate env at e)) (law at G env plain sized) (λ v r. r (m, E'))) E
@@ -252,12 +248,40 @@ module _ (N : Names) (types : Sub) (τ : Meant) (W : World) (S : Sound N types W
   not_general (Bound_pattern x) (Lambda ps e) n g = absurd n
   not_general p v n g = absurd g
 
-  let_choice : (b : Binding Ref BindId) (v e : FlatTerm) (lo mid at hi : ℕ) (G : Context) → No_lambda v
+  -- a let of a function's name
+  general_gives : (p : FlatPattern) (v e : FlatTerm) (lo mid at hi : ℕ) (G : Context) (env : FlatEnv) → mid ≡ 1 + lo + pattern_numbers p → mid + numbers v ≡ at → at + numbers e ≡ hi → Single N types W p lo at → Plain_term N types W v mid → Plain_term N types W e at → Law v → Law e → Sized N types W.sizing.size_at W.sizing.home v mid G
+      → (A : Generalised N types W.sizing.size_at W.sizing.home p v lo mid at hi G) → Sized N types W.sizing.size_at W.sizing.home e at (with_general N types W.sizing.size_at W.sizing.home p (1 + lo) A.new G)
+      → Gives (All_results lo hi G env (s lo)) (Then (means W (Evaluate env mid v)) (λ w. Then (the (bound (1 + lo) p w env)) (λ inner. means W (Evaluate inner at e))))
+  unfolding bound
+  general_gives (Bound_pattern x) v e lo mid at hi G env z z' z'' single plain_v plain_e law_v law_e sized_v A sized_e =
+      gives_then (All_results mid at G env (s mid)) (All_results lo hi G env (s lo)) _ _
+      (subst (λ n. Gives (All_results mid n G env (s mid)) (means W (Evaluate env mid v))) z' (law_v mid G env plain_v sized_v))
+      (λ w hw. gives_then (λ inner. inner ≡ bind x w (entered (1 + lo) w env)) (All_results lo hi G env (s lo)) _ _
+      (gives_exact (λ inner. inner ≡ bind x w (entered (1 + lo) w env)) 0 (Val (bind x w (entered (1 + lo) w env))) refl)
+      (λ inner q. subst (λ y. Gives (All_results lo hi G env (s lo)) (means W (Evaluate y at e))) (sym q)
+      (gives_as (All_results at hi (with_general N types W.sizing.size_at W.sizing.home (Bound_pattern x) (1 + lo) A.new G) (bind x w (entered (1 + lo) w env)) (s at)) (All_results lo hi G env (s lo)) (means W (Evaluate (bind x w (entered (1 + lo) w env)) at e))
+      (subst (λ n. Gives (All_results at n (with_general N types W.sizing.size_at W.sizing.home (Bound_pattern x) (1 + lo) A.new G) (bind x w (entered (1 + lo) w env)) (s at)) (means W (Evaluate (bind x w (entered (1 + lo) w env)) at e))) z'' (law_e at (with_general N types W.sizing.size_at W.sizing.home (Bound_pattern x) (1 + lo) A.new G) (bind x w (entered (1 + lo) w env)) plain_e sized_e))
+      (λ u k. λ X.
+      let r = hw (X.0, env_moves N types τ W lo hi mid at X.0 X.0 G env (omega (arith, z)) (omega (arith, z'')) (λ d o. refl) X.1) in
+      let old : (d : Free) → Beyond lo hi d → r.now d ≡ X.0 d = λ d o. r.old d (outside_narrower N types τ W lo hi mid at (omega (arith, z)) (omega (arith, z'')) d o) in
+      let E' = general_env N types τ W S one x lo at hi w A.new G env r.now (env_moves N types τ W lo hi at hi X.0 r.now G env (omega (arith, z, z')) (omega arith) old X.1) (subst (λ y. Of r.now y w) (sym A.type) r.fits)
+      (subst (Away N types W.sizing.size_at W.sizing.home at hi) (sym A.type) A.away) (each_hole_as (λ a. true ≡ false) (λ a. A.new a ≡ false) (λ a i. absurd (let y : true ≡ false = i in cc)) (s (1 + lo)) (single.2).0, (single.2).1) single.1
+      (λ i. let y = single.0 in let f = i.0 in omega (arith, y, f, z, z')) in
+      let y = names_leave N types τ W S one lo at hi (names (Bound_pattern x)) r.now u (omega (arith, z, z')) (omega (arith, z'')) single.3 (k (r.now, E')) in record {
+        now = y.0;
+        old = λ d o. y.1 d (outside_narrower N types τ W lo hi lo (1 + lo) (omega arith) (omega (arith, z, z', z'')) d o) (outside_narrower N types τ W lo hi at hi (omega (arith, z, z')) (omega arith) d o) ∙ old d o;
+        fits = subst (λ t. Of y.0 t u) (sym A.result) y.2;
+      }))))
+  general_gives p v e lo mid at hi G env z z' z'' single plain_v plain_e law_v law_e sized_v A sized_e = absurd single
+
+  let_by : (b : Binding Ref BindId) (v e : FlatTerm) (lo mid at hi : ℕ) (G : Context) (env : FlatEnv) → mid ≡ 1 + lo + pattern_numbers b.pattern → mid + numbers v ≡ at → at + numbers e ≡ hi → Simple W.sizing b.pattern (1 + lo) → Sizes_apart N types W at hi b.sizes b.pattern (1 + lo) → No_lambda v ⊎ Single N types W b.pattern lo at
+      → Plain_term N types W v mid → Plain_term N types W e at → Law v → Law e → Sized N types W.sizing.size_at W.sizing.home v mid G
       → (Let_sized N types W.sizing.size_at W.sizing.home b lo mid at hi × Sized N types W.sizing.size_at W.sizing.home e at (with_pattern W.sizing.size_at b.pattern (1 + lo) (with_size_names (bind_ids b.sizes) G)))
       ⊎ ((A : Generalised N types W.sizing.size_at W.sizing.home b.pattern v lo mid at hi G) × Sized N types W.sizing.size_at W.sizing.home e at (with_general N types W.sizing.size_at W.sizing.home b.pattern (1 + lo) A.new G))
-      → Let_sized N types W.sizing.size_at W.sizing.home b lo mid at hi × Sized N types W.sizing.size_at W.sizing.home e at (with_pattern W.sizing.size_at b.pattern (1 + lo) (with_size_names (bind_ids b.sizes) G))
-  let_choice b v e lo mid at hi G n (inl q) = q
-  let_choice b v e lo mid at hi G n (inr q) = absurd (not_general b.pattern v n (q.0).form)
+      → Gives (All_results lo hi G env (s lo)) (Then (means W (Evaluate env mid v)) (λ w. Then (the (bound (1 + lo) b.pattern w env)) (λ inner. means W (Evaluate inner at e))))
+  let_by b v e lo mid at hi G env z z' z'' simple apart form plain_v plain_e law_v law_e sized_v (inl q) = let_gives b v e lo mid at hi G env z z' z'' simple apart plain_v plain_e law_v law_e sized_v q
+  let_by b v e lo mid at hi G env z z' z'' simple apart (inl n) plain_v plain_e law_v law_e sized_v (inr q) = absurd (not_general b.pattern v n (q.0).form)
+  let_by b v e lo mid at hi G env z z' z'' simple apart (inr single) plain_v plain_e law_v law_e sized_v (inr q) = general_gives b.pattern v e lo mid at hi G env z z' z'' single plain_v plain_e law_v law_e sized_v q.0 q.1
 
   -- ---- loops
 
@@ -354,9 +378,29 @@ module _ (N : Names) (types : Sub) (τ : Meant) (W : World) (S : Sound N types W
   unfolding Fits size_value
   size_fits b lo hi G env e = λ w. record { now = w.0; old = λ d o. refl; fits = subst (λ u. Of w.0 u (size_value W.sizing env b.0)) (sym e) refl }
 
+  -- a use of a general name of one type
+  general_fits : (m : Worth) (is_general : Variable → Bool) (t u : Size) (v : FlatValue) → One_type is_general t → Filled_use is_general t u → Of m t v → Of m u v
+  general_fits m is_general t u v one_type U h = by_use (subst (λ x. Suits x u ⊎ For_each_choice x u) (nothing_filled U.types t (each_hole_as (λ a. is_general a ≡ false) (λ a. U.types a ≡ Hole a) (λ a e. U.others a e) t one_type.0)) U.used)
+    where
+      never_at : (n j : ℕ) (d : Dim) → Scoped Named_size j d → Scoped (Free_of n) j d
+      never_at n j (At (Const c)) k = tt
+      never_at n j (At (Name b)) k = tt
+      never_at n j (At (Own i l)) k = absurd k
+      never_at n j (At (Unknown i l)) k = absurd k
+      never_at n j (At (Slot i)) k = absurd k
+      never_at n j (Bound i l) k = k
+
+      by_use : Suits t u ⊎ For_each_choice t u → Of m u v
+      by_use (inl q) = suits_fits N τ W.sizing (calls W) q m v h
+      by_use (inr C) = subst (λ x. Of m x v) (sym C.wanted)
+          (instance_fits N τ W.sizing (calls W) C.chosen C.from C.to C.wanted_chosen C.wanted_from C.wanted_to C.n C.m C.δ C.ρ C.at_choice C.parameter C.result
+          (λ m v x. suits_fits N τ W.sizing (calls W) C.parameter m v x) (λ m v x. suits_fits N τ W.sizing (calls W) C.result m v x) m v
+          (λ F. subst (λ x. Of (at_node C.n F m) x v) C.is_function
+          (fits_same (Free_of C.n) m (at_node C.n F m) N τ W.sizing (calls W) (λ d o. sym (node_else C.n F m d o)) t 0 no_frames no_frames (each_as (Scoped Named_size) (Scoped (Free_of C.n)) (never_at C.n) t 0 one_type.1) (λ j i l. refl) v h)))
+
   use_fits : (b : BindId) (lo hi : ℕ) (G : Context) (env : FlatEnv) → ((t : Size) × (G.sizes b.0 ≡ Some t) × Suits t (s lo)) ⊎ ((t : Size) × (G.schemes b.0 ≡ Some t) × Filled_use (G.general b.0) t (s lo)) → (v : FlatValue) → flat_look W.tops env b.0 ≡ Val v → All_results lo hi G env (s lo) v
   use_fits b lo hi G env (inl q) v l = λ w. record { now = w.0; old = λ d o. refl; fits = suits_fits N τ W.sizing (calls W) q.2 w.0 v ((w.1).values b.0 q.0 q.1 v l).0 }
-  use_fits b lo hi G env (inr q) v l = λ w. absurd (none_some (G.schemes b.0) q.0 ((w.1).none_general b.0) q.1)
+  use_fits b lo hi G env (inr q) v l = λ w. record { now = w.0; old = λ d o. refl; fits = general_fits w.0 (G.general b.0) q.0 (s lo) v ((w.1).general b.0 q.0 q.1).0 q.2 (((w.1).general b.0 q.0 q.1).2 v l) }
 
   named_or_size : (b : BindId) (lo hi : ℕ) (G : Context) (env : FlatEnv) → (W.sizing.is_size b.0 ≡ true → s lo ≡ i64_size) → ((t : Size) × (G.sizes b.0 ≡ Some t) × Suits t (s lo)) ⊎ ((t : Size) × (G.schemes b.0 ≡ Some t) × Filled_use (G.general b.0) t (s lo))
       → Out_fits (All_results lo hi G env (s lo)) (cond (W.sizing.is_size b.0) (Val (size_value W.sizing env b.0)) (flat_look W.tops env b.0))
@@ -383,10 +427,10 @@ module _ (N : Names) (types : Sub) (τ : Meant) (W : World) (S : Sound N types W
     law (Strict o mark ts) = λ lo G env p h.
         let at : ℕ = lo + own_numbers o in
         evaluates N types τ W S one (All_results lo (lo + (own_numbers o + all_numbers ts)) G env (s lo)) (Evaluate env lo (Strict o mark ts))
-        (gives_then (All_parts at (at + all_numbers ts) G env (part_sizes N types W.sizing.size_at W.sizing.home ts at)) (All_results lo (lo + (own_numbers o + all_numbers ts)) G env (s lo)) _ _
+        (gives_then (λ vs. All_parts at (at + all_numbers ts) G env (part_sizes N types W.sizing.size_at W.sizing.home ts at) vs × Part_values N types τ W S one env ts at vs) (All_results lo (lo + (own_numbers o + all_numbers ts)) G env (s lo)) _ _
         (all_law ts at (at + all_numbers ts) G env refl p.1 h.0)
         (λ vs k. subst (λ hi. Gives (All_results lo hi G env (s lo)) (Operated_at o mark lo env vs)) (let z : lo + own_numbers o + all_numbers ts ≡ lo + (own_numbers o + all_numbers ts) = omega arith in z)
-        (strict_gives o mark ts lo G env vs p.0 h.1 k)))
+        (strict_gives o mark ts lo G env vs p.0 h.1 h.0 k)))
     law (Lambda (pattern_and p ps) e) = λ lo G env plain h.
         let at : ℕ = 1 + lo + (pattern_numbers p + all_pattern_numbers ps) in
         evaluates N types τ W S one (All_results lo (lo + numbers (Lambda (pattern_and p ps) e)) G env (s lo)) (Evaluate env lo (Lambda (pattern_and p ps) e))
@@ -417,7 +461,7 @@ module _ (N : Names) (types : Sub) (τ : Meant) (W : World) (S : Sound N types W
         let hi : ℕ = 1 + lo + pattern_numbers b.pattern + numbers v + numbers e in
         evaluates N types τ W S one (All_results lo (lo + numbers (Let b v e)) G env (s lo)) (Evaluate env lo (Let b v e))
         (subst (λ z. Gives (All_results lo z G env (s lo)) (Then (means W (Evaluate env mid v)) (λ w. Then (the (bound (1 + lo) b.pattern w env)) (λ inner. means W (Evaluate inner at e))))) (let z : hi ≡ lo + numbers (Let b v e) = omega arith in z)
-        (let_gives b v e lo mid at hi G env refl refl refl plain.0 plain.1 plain.3 plain.4 (law v) (law e) h.0 (let_choice b v e lo mid at hi G plain.2 h.1)))
+        (let_by b v e lo mid at hi G env refl refl refl plain.0 plain.1 plain.2 plain.3 plain.4 (law v) (law e) h.0 h.1))
     law (If c a b) = λ lo G env plain h.
         let at : ℕ = 1 + lo + numbers c in
         let other : ℕ = 1 + lo + numbers c + numbers a in
@@ -449,13 +493,15 @@ module _ (N : Names) (types : Sub) (τ : Meant) (W : World) (S : Sound N types W
         while_gives c body (report kind.Turns mark) sizes p lo mid ts at hi G env w z l (omega (arith, z1)) z' (L ts) plain_b law_b sized hw
 
     all_law : (ts : Terms Ref BindId) → All_law ts
-    all_law no_term = λ lo hi G env z plain h. gives_exact (All_parts lo hi G env no_size) 0 (Val []) (no_parts lo hi G env)
+    all_law no_term = λ lo hi G env z plain h. gives_exact (λ vs. All_parts lo hi G env no_size vs × Part_values N types τ W S one env no_term lo vs) 0 (Val []) (no_parts lo hi G env, tt)
     all_law (term_and t ts) = λ lo hi G env z plain h.
-        gives_then (All_results lo (lo + numbers t) G env (s lo)) (All_parts lo hi G env (part_sizes N types W.sizing.size_at W.sizing.home (term_and t ts) lo)) _ _
-        (law t lo G env plain.0 h.0)
-        (λ v hv. gives_then (All_parts (lo + numbers t) hi G env (part_sizes N types W.sizing.size_at W.sizing.home ts (lo + numbers t))) (All_parts lo hi G env (part_sizes N types W.sizing.size_at W.sizing.home (term_and t ts) lo)) _ _
+        let rest : Sizes = part_sizes N types W.sizing.size_at W.sizing.home ts (lo + numbers t) in
+        let R : List FlatValue → Type 0 = λ vs. All_parts lo hi G env (part_sizes N types W.sizing.size_at W.sizing.home (term_and t ts) lo) vs × Part_values N types τ W S one env (term_and t ts) lo vs in
+        gives_then (λ v. All_results lo (lo + numbers t) G env (s lo) v × Part_values N types τ W S one env (term_and t no_term) lo (v ∷ [])) R _ _
+        (gives_more (All_results lo (lo + numbers t) G env (s lo)) (λ v. Part_values N types τ W S one env (term_and t no_term) lo (v ∷ [])) (means W (Evaluate env lo t)) (law t lo G env plain.0 h.0) (λ v f r. (part_value N types τ W S one t lo env v f r, tt)))
+        (λ v hv. gives_then (λ vs. All_parts (lo + numbers t) hi G env rest vs × Part_values N types τ W S one env ts (lo + numbers t) vs) R _ _
         (all_law ts (lo + numbers t) hi G env (omega (arith, z)) plain.1 h.2)
-        (λ vs hvs. gives_exact _ 0 (Val (v ∷ vs)) (parts_and lo (lo + numbers t) hi G env (part_sizes N types W.sizing.size_at W.sizing.home ts (lo + numbers t)) v vs (omega arith) (omega (arith, z)) h.1 hv hvs)))
+        (λ vs hvs. gives_exact R 0 (Val (v ∷ vs)) (parts_and lo (lo + numbers t) hi G env rest v vs (omega arith) (omega (arith, z)) h.1 hv.0 hvs.0, (hv.1.0, hvs.1))))
 
 pub values_have_their_sizes : ValuesHaveTheirSizes
 values_have_their_sizes N types τ W t lo G env m S one plain h E = gives_as _ (Res N types (exactly τ) W lo (lo + numbers t) m (W.sizing.size_at lo)) (means W (Evaluate env lo t)) (law N types (exactly τ) W S (exact_kinds τ one) t lo G env plain h) (λ v r. r (m, E))

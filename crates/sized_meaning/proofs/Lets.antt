@@ -1,4 +1,8 @@
 -- Lets: the names of a pattern are worth what its parts are, and sizes that it names what they take.
+use Rattle.fut_meaning.specs.Found.{is_number as is_whole}
+use Rattle.fut_meaning.specs.Telling.{found}
+use Rattle.fut_meaning.specs.Values.{bind, entered}
+use Rattle.std.specs.Prelude.{ℤ}
 use Rattle.std.proofs.Common.{◌≡◌, ℕ, ◌+◌, ◌<◌, ◌≤◌, List, [], ◌∷◌, ◌++◌, Bool, true, false, ◌||◌, cond, nat_eq, Some, None, refl, sym, ap, ◌∙◌, subst, arith, eqb-true, eq-eqb}
 use Rattle.fut_scalar.specs.declared.place.BindId.{BindId}
 use Rattle.fut_flat.specs.Numbers.{pattern_numbers}
@@ -9,11 +13,11 @@ use Rattle.fut_typing.specs.Names.{Names}
 use Rattle.fut_meaning.specs.Accessors.{bound}
 use Rattle.fut_meaning.specs.Flats.{FlatValue, FlatEnv, flat_look}
 use Rattle.fut_meaning.specs.Outcomes.{Val}
-use Rattle.sized_types.specs.Sizes.{Free, Const, Name, Own, Unknown, Slot, Dim, At, Size, Hole, Open, Level, Built, Fun, Sizes, no_size, size_and, is_dim, renamed}
+use Rattle.sized_types.specs.Sizes.{Free, Const, Name, Own, Unknown, Slot, Dim, At, Size, Hole, Open, Level, Built, Fun, Sizes, no_size, size_and, is_dim, renamed, Variable}
 use Rattle.sized_types.specs.Standing.{stands, some_stands}
 use Rattle.fut_sizes.specs.Agreeing.{leave, is_among, names_one}
 use Rattle.fut_sizes.specs.Scopes.{i64_size, names}
-use Rattle.fut_sizes.specs.Scoping.{Context, with_size_name, with_size_names, with_entered, with_pattern}
+use Rattle.fut_sizes.specs.Scoping.{Context, with_size_name, with_size_names, with_entered, with_pattern, with_scheme, is_name}
 use Rattle.fut_sizes.specs.Sizing.{bind_ids}
 use Rattle.fut_sizes.specs.Suiting.{Each, Each_all, Scoped}
 use Rattle.fut_sizes.specs.Rules.{taken_by, Inside, Away, Pattern_takes}
@@ -21,11 +25,11 @@ use Rattle.sized_meaning.specs.Worth.{Worth, free, no_frames}
 use Rattle.sized_meaning.specs.Shapes.{Meant}
 use Rattle.sized_meaning.specs.Finding.{One_kind_each}
 use Rattle.sized_meaning.specs.Fits.{Out_fits, word, Fits}
-use Rattle.sized_meaning.specs.Law.{Sound, Name_home, Simple, Nodes_away, World, calls, Beyond as Out_beyond, Env_fits, Result as Res}
-use Rattle.sized_meaning.proofs.Finding.{dim_same}
+use Rattle.sized_meaning.specs.Law.{Sound, One_type, Name_home, Simple, Nodes_away, World, calls, Beyond as Out_beyond, Env_fits, Result as Res}
+use Rattle.sized_meaning.proofs.Finding.{dim_same, none_no}
 use Rattle.sized_meaning.proofs.Reading.{fits_renamed_in}
 use Rattle.sized_meaning.proofs.Suiting.{at_node, free_is}
-use Rattle.sized_meaning.proofs.Environments.{same_some, beyond_node, inside_wider, outside_narrower, apart, fits_away, env_moves}
+use Rattle.sized_meaning.proofs.Environments.{same_some, beyond_node, inside_wider, outside_narrower, apart, fits_away, env_moves, same_val, env_entered}
 use Rattle.sized_meaning.proofs.Patterns.{among_first, among_later, among_front, among_back, named_by, others_keep, names_worth, name_at, name_left, beyond_unnamed, enters}
 
 -- a size that stands in a type is of those that its dims are of
@@ -103,7 +107,8 @@ module _ (N : Names) (types : Sub) (τ : Meant) (W : World) (S : Sound N types W
   size_named lo hi m G env b E o none = record {
     values = λ k u e v l. values k u v (nat_eq b k) refl e l;
     away = λ k u e. away k u (nat_eq b k) refl e;
-    none_general = λ k. general (nat_eq b k) k;
+    general = λ k u e. general k u (nat_eq b k) e;
+    general_worth = λ k u e i. general_worth k u (nat_eq b k) e i;
     fresh = E.fresh;
     sizes_right = E.sizes_right;
     types_right = E.types_right;
@@ -119,9 +124,13 @@ module _ (N : Names) (types : Sub) (τ : Meant) (W : World) (S : Sound N types W
       away k u true q e = (subst (λ y. Away N types W.sizing.size_at W.sizing.home lo hi y) (same_some i64_size u e) tt, subst (λ n. Beyond lo hi (Name n)) (eqb-true b k q) o)
       away k u false q e = E.away k u e
 
-      general : (c : Bool) (k : ℕ) → cond c None (G.schemes k) ≡ None
-      general true k = refl
-      general false k = E.none_general k
+      general : (k : ℕ) (u : Size) (c : Bool) → cond c None (G.schemes k) ≡ Some u → One_type (G.general k) u × Away N types W.sizing.size_at W.sizing.home lo hi u × ((v : FlatValue) → flat_look W.tops env k ≡ Val v → Of m u v)
+      general k u true e = none_no e
+      general k u false e = E.general k u e
+
+      general_worth : (k : ℕ) (u : Size) (c : Bool) → cond c None (G.schemes k) ≡ Some u → is_whole u ≡ true → Beyond lo hi (Name k) × ((v : FlatValue) → flat_look W.tops env k ≡ Val v → word v ≡ m (Name k))
+      general_worth k u true e i = none_no e
+      general_worth k u false e i = E.general_worth k u e i
 
   pub sizes_named : (lo hi : ℕ) (m : Worth) (G : Context) (env : FlatEnv) (bs : List ℕ) → Env_of lo hi m G env → ((b : ℕ) → is_among bs b ≡ true → Beyond lo hi (Name b) × ((v : FlatValue) → flat_look W.tops env b ≡ Val v → ⊥)) → Env_of lo hi m (with_size_names bs G) env
   sizes_named lo hi m G env [] E h = E
@@ -223,3 +232,46 @@ module _ (N : Names) (types : Sub) (τ : Meant) (W : World) (S : Sound N types W
             ∙ inside_beyond p sizes lo mid at hi t T l0 l1 l2 w now d (outside_narrower N types τ W lo hi (1 + lo) mid (omega arith) (omega (arith, l1, l2)) d o) ∙ old d o;
         fits = subst (λ u. Of x.0 u v) (sym result) x.2;
       }
+
+  -- ---- a general name
+
+  -- in its scope the name has its value
+  pub general_env : (b : BindId) (lo at hi : ℕ) (w : FlatValue) (new : Variable → Bool) (G : Context) (env : FlatEnv) (m : Worth) → Env_of at hi m G env → Of m (s (1 + lo)) w → Away N types W.sizing.size_at W.sizing.home at hi (s (1 + lo)) → One_type new (s (1 + lo)) → is_whole (s (1 + lo)) ≡ false → Beyond at hi (Name b.0)
+      → Env_of at hi m (with_scheme b.0 (s (1 + lo)) new (with_entered (s (1 + lo)) G)) (bind b w (entered (1 + lo) w env))
+  unfolding flat_look found
+  general_env b lo at hi w new G env m E h a one_type no_number o =
+      let E1 : Env_of at hi m (with_entered (s (1 + lo)) G) (entered (1 + lo) w env) = env_entered N types τ W S one at hi m (1 + lo) G env w E h a (λ c z e k v. absurd (let y : false ≡ true = sym no_number ∙ k in cc)) in record {
+        values = λ k u e x l. values E1 k u (nat_eq b.0 k) e x l;
+        away = λ k u e. away E1 k u (nat_eq b.0 k) e;
+        general = λ k u e. general E1 k u (nat_eq b.0 k) e;
+        general_worth = λ k u e i. general_worth E1 k u (nat_eq b.0 k) e i;
+        fresh = λ k x i l. fresh E1 k x (nat_eq b.0 k) refl i l;
+        sizes_right = E1.sizes_right;
+        types_right = E1.types_right;
+        finds = λ d e. finds E1 d (is_name b.0 d) e;
+        finds_types = E1.finds_types;
+      }
+    where
+      values : Env_of at hi m (with_entered (s (1 + lo)) G) (entered (1 + lo) w env) → (k : ℕ) (u : Size) (c : Bool) → cond c None (G.sizes k) ≡ Some u → (x : FlatValue) → cond c (Val w) (flat_look W.tops env k) ≡ Val x → Of m u x × (word x ≡ m (Name k))
+      values E1 k u true e x l = none_no e
+      values E1 k u false e x l = E1.values k u e x l
+
+      away : Env_of at hi m (with_entered (s (1 + lo)) G) (entered (1 + lo) w env) → (k : ℕ) (u : Size) (c : Bool) → cond c None (G.sizes k) ≡ Some u → Away N types W.sizing.size_at W.sizing.home at hi u × Beyond at hi (Name k)
+      away E1 k u true e = none_no e
+      away E1 k u false e = E1.away k u e
+
+      general : Env_of at hi m (with_entered (s (1 + lo)) G) (entered (1 + lo) w env) → (k : ℕ) (u : Size) (c : Bool) → cond c (Some (s (1 + lo))) (G.schemes k) ≡ Some u → One_type (cond c new (G.general k)) u × Away N types W.sizing.size_at W.sizing.home at hi u × ((x : FlatValue) → cond c (Val w) (flat_look W.tops env k) ≡ Val x → Of m u x)
+      general E1 k u true e = subst (λ y. One_type new y × Away N types W.sizing.size_at W.sizing.home at hi y × ((x : FlatValue) → Val w ≡ Val x → Of m y x)) (same_some (s (1 + lo)) u e) (one_type, a, (λ x l. subst (λ z. Of m (s (1 + lo)) z) (same_val w x l) h))
+      general E1 k u false e = E1.general k u e
+
+      general_worth : Env_of at hi m (with_entered (s (1 + lo)) G) (entered (1 + lo) w env) → (k : ℕ) (u : Size) (c : Bool) → cond c (Some (s (1 + lo))) (G.schemes k) ≡ Some u → is_whole u ≡ true → Beyond at hi (Name k) × ((x : FlatValue) → cond c (Val w) (flat_look W.tops env k) ≡ Val x → word x ≡ m (Name k))
+      general_worth E1 k u true e i = absurd (let y : false ≡ true = sym no_number ∙ ap is_whole (same_some (s (1 + lo)) u e) ∙ i in cc)
+      general_worth E1 k u false e i = E1.general_worth k u e i
+
+      fresh : Env_of at hi m (with_entered (s (1 + lo)) G) (entered (1 + lo) w env) → (k : ℕ) (x : FlatValue) (c : Bool) → nat_eq b.0 k ≡ c → In_nodes at hi (Name k) → cond c (Val w) (flat_look W.tops env k) ≡ Val x → ⊥
+      fresh E1 k x true q i l = o (subst (λ n. In_nodes at hi (Name n)) (sym (eqb-true b.0 k q)) i)
+      fresh E1 k x false q i l = E1.fresh k x i l
+
+      finds : Env_of at hi m (with_entered (s (1 + lo)) G) (entered (1 + lo) w env) → (d : Free) (c : Bool) → cond c false ((with_entered (s (1 + lo)) G).finds d) ≡ true → (n : ℤ) × ((found W.sizing (entered (1 + lo) w env)).size d ≡ Some n)
+      finds E1 d true e = absurd (let y : false ≡ true = e in cc)
+      finds E1 d false e = E1.finds d e

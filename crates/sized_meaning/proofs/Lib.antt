@@ -10,6 +10,7 @@ pub mod Entered
 pub mod Alike
 pub mod Branches
 pub mod Applications
+pub mod Words
 pub mod Patterns
 pub mod Mapping
 pub mod Reducing
@@ -30,3 +31,9 @@ pub mod Lets
 pub mod Loops
 pub mod Law
 mod Examples
+mod Recording
+mod Triples
+mod Scattering
+mod Histogram
+mod Ranging
+mod Coercing

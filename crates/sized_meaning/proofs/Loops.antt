@@ -1,5 +1,5 @@
 -- Loops: each turn gives a value of the sized type of the loop. Levels that it doesn't keep are met anew in each turn.
-use Rattle.std.proofs.Common.{◌≡◌, ℕ, zero, suc, ◌+◌, ◌<◌, ◌≤◌, List, [], ◌∷◌, ◌++◌, Bool, true, false, ◌||◌, cond, nat_eq, None, refl, sym, ap, ◌∙◌, subst, arith, eqb-true, eq-eqb}
+use Rattle.std.proofs.Common.{◌≡◌, ℕ, zero, suc, ◌+◌, ◌<◌, ◌≤◌, List, [], ◌∷◌, ◌++◌, Bool, true, false, ◌||◌, cond, nat_eq, refl, sym, ap, ◌∙◌, subst, arith, eqb-true}
 use Rattle.fut_scalar.specs.declared.place.BindId.{BindId}
 use Rattle.fut_scalar.specs.declared.report.Report.{Report}
 use Rattle.fut_scalar.specs.declared.scalar.IntType.{IntType}
@@ -18,7 +18,7 @@ use Rattle.fut_meaning.specs.Meaning.{counts}
 use Rattle.fut_meaning.specs.Arrays.{rows_of}
 use Rattle.fut_meaning.specs.Datums.{as_value, datum_of}
 use Rattle.fut_meaning.specs.Flats.{FlatValue, FlatEnv}
-use Rattle.fut_meaning.specs.Telling.{worth_of, found}
+use Rattle.fut_meaning.specs.Telling.{found}
 use Rattle.fut_meaning.specs.Outcomes.{Val, Fail, Rel, and_then, the, gives, Then, choose, turns, while_turns}
 use Rattle.fut_meaning.specs.Values.{Scalar_value, bind, entered, Evaluate}
 use Rattle.fut_meaning.proofs.Data.{datum_of_as}
@@ -44,7 +44,7 @@ use Rattle.sized_meaning.proofs.Suiting.{at_node, free_is}
 use Rattle.sized_meaning.proofs.Finding.{dim_same}
 use Rattle.sized_meaning.proofs.Datas.{shaped_data, datum_fits}
 use Rattle.sized_meaning.proofs.Mapping.{every_listed}
-use Rattle.sized_meaning.proofs.Environments.{some_first, word_is, number_type, number_value, beyond_node, outside_narrower, apart, env_moves, env_bind, env_entered}
+use Rattle.sized_meaning.proofs.Environments.{word_is, name_found, beyond_node, outside_narrower, apart, env_moves, env_bind, env_entered}
 use Rattle.sized_meaning.proofs.Alike.{Alike, alike_hole, alike_level, alike_built, All_alike, alike_none, alike_more, alike_fits}
 use Rattle.sized_meaning.proofs.Branches.{Numbered, All_numbered, all_of, all_of_numbered, same_number, here, stays, Same_form, same_hole, same_level, same_built, All_same_form, same_none, same_more, same_levels}
 use Rattle.sized_meaning.proofs.Patterns.{among_back, named_as, named_else, named_here, named_by, others_keep, names_inside, beyond_unnamed, names_worth, nodes_away, keeps_less, enters}
@@ -357,9 +357,9 @@ module _ (N : Names) (types : Sub) (τ : Meant) (W : World) (S : Sound N types W
             let worth_is = sym (named_here i.0 (word v) m') in
             env_bind N types τ W at hi m2 inside (entered ts v e) i (s ts) v
             (keeps_less N types τ W S one at hi m2 (s ts) inside (entered ts v e) (env_entered N types τ W S one at hi m2 ts inside e v E2 fits away
-            (λ c z q k. let same : c ≡ i.0 = simple c q (number_type N τ W m2 no_frames (s ts) v z fits k) in (word_is v z k ∙ worth_is ∙ ap (λ b. m2 (Name b)) (sym same), subst (λ b. Beyond at hi (Name b)) (sym same) outside))))
+            (λ c z q w k. let same : c ≡ i.0 = simple c q w in (word_is v z k ∙ worth_is ∙ ap (λ b. m2 (Name b)) (sym same), subst (λ b. Beyond at hi (Name b)) (sym same) outside))))
             fits away outside worth_is
-            (λ q. let k = number_value N τ W m2 no_frames (s ts) v fits q in some_first (cond (nat_eq (W.sizing.home i.0) ts) (worth_of v) None) _ (k.0, ap (λ c. cond c (worth_of v) None) (eq-eqb (W.sizing.home i.0) ts at_home) ∙ k.1))
+            (λ q. name_found N types τ W S one at hi m2 ts i.0 v _ fits at_home q)
           where
             named_inside : (c : ℕ) (b : Bool) → nat_eq c i.0 ≡ b → cond b true false ≡ true → (ts ≤ W.sizing.home c) × (W.sizing.home c < te)
             named_inside c true z q = let k : W.sizing.home c ≡ ts = ap W.sizing.home (eqb-true c i.0 z) ∙ at_home in (omega (arith, k), omega (arith, k, l5))

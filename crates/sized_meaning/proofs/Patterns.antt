@@ -12,7 +12,7 @@ use Rattle.fut_types.specs.Types.{Sub}
 use Rattle.fut_typing.specs.Names.{Names}
 use Rattle.fut_meaning.specs.Accessors.{or_wrong, tuple_parts, fields_of, record_parts, bound, all_bound}
 use Rattle.fut_meaning.specs.Flats.{FlatValue, FlatEnv}
-use Rattle.fut_meaning.specs.Telling.{worth_of, found}
+use Rattle.fut_meaning.specs.Telling.{found}
 use Rattle.fut_meaning.specs.Outcomes.{Out, Val, Fail, Wrong, and_then}
 use Rattle.fut_meaning.specs.Values.{Tuple_value, Record_value, no_value, value_and, field, listed, entered}
 use Rattle.sized_types.specs.Sizes.{Free, Const, Name, Own, Unknown, Slot, Dim, At, Bound, Size, Hole, Open, Level, Built, Fun, Sizes, no_size, size_and, replaced, all_replaced, renaming, renamed}
@@ -33,7 +33,7 @@ use Rattle.sized_meaning.proofs.Finding.{some_same, none_no}
 use Rattle.sized_meaning.proofs.Datas.{value_same, the_value}
 use Rattle.sized_meaning.proofs.Reading.{fits_renamed}
 use Rattle.sized_meaning.proofs.Suiting.{at_node, node_here}
-use Rattle.sized_meaning.proofs.Environments.{some_first, word_is, number_type, number_value, inside_wider, outside_narrower, apart, env_bind, env_entered}
+use Rattle.sized_meaning.proofs.Environments.{word_is, name_found, inside_wider, outside_narrower, apart, env_bind, env_entered}
 
 -- ---- names among others
 
@@ -354,7 +354,8 @@ module _ (N : Names) (types : Sub) (τ : Meant) (W : World) (S : Sound N types W
   keeps_less t G env E = record {
     values = E.values;
     away = E.away;
-    none_general = E.none_general;
+    general = E.general;
+    general_worth = E.general_worth;
     fresh = E.fresh;
     sizes_right = E.sizes_right;
     types_right = E.types_right;
@@ -422,22 +423,22 @@ module _ (N : Names) (types : Sub) (τ : Meant) (W : World) (S : Sound N types W
           let outside = outside_narrower N types τ W (q + 1) hi at hi le (omega arith) (Name b.0) (apart N types τ W q (q + 1) hi (Name b.0) inside) in
           env_bind N types τ W at hi m G' (entered q v env) b (W.sizing.size_at q) v
           (keep (entered q v env) (env_entered N types τ W S one at hi m q G env v E fits away
-          (λ c z e w. let same : c ≡ b.0 = simple c e (number_type N τ W m no_frames (W.sizing.size_at q) v z fits w) in (word_is v z w ∙ worth ∙ ap (λ k. m (Name k)) (sym same), subst (λ k. Out_beyond N types τ W at hi (Name k)) (sym same) outside))))
+          (λ c z e k w. let same : c ≡ b.0 = simple c e k in (word_is v z w ∙ worth ∙ ap (λ k. m (Name k)) (sym same), subst (λ k. Out_beyond N types τ W at hi (Name k)) (sym same) outside))))
           fits away outside worth
-          (λ e. let k = number_value N τ W m no_frames (W.sizing.size_at q) v fits e in some_first (cond (nat_eq (W.sizing.home b.0) q) (worth_of v) None) _ (k.0, ap (λ c. cond c (worth_of v) None) (eq-eqb (W.sizing.home b.0) q at_home) ∙ k.1))
+          (λ e. name_found N types τ W S one at hi m q b.0 v _ fits at_home e)
       enters Wild_pattern q t v G G' env keep at_home simple le away takes h worth E =
           let fits = at_node_fits q t v takes h in
-          keep (entered q v env) (env_entered N types τ W S one at hi m q G env v E fits away (λ c z e w. absurd (simple c e (number_type N τ W m no_frames (W.sizing.size_at q) v z fits w))))
+          keep (entered q v env) (env_entered N types τ W S one at hi m q G env v E fits away (λ c z e k w. absurd (simple c e k)))
       enters (Typed_pattern p e) q t v G G' env keep at_home simple le away takes h worth E = enters p q t v G G' env keep at_home simple le away takes h worth E
       enters (Tuple_pattern ps) q t (Tuple_value vs) G G' env keep at_home simple le away takes h worth E =
           all_enter ps (1 + q) takes.1 (listed vs) G' (entered q (Tuple_value vs) env) simple (omega (arith, le)) away.1 takes.3 (tuple_parts_fit takes.1 vs (subst (λ x. Of x (Tuple_value vs)) takes.2 h)) worth
-          (keep (entered q (Tuple_value vs) env) (env_entered N types τ W S one at hi m q G env (Tuple_value vs) E (at_node_fits q t (Tuple_value vs) takes.0 h) away.0 (λ c z e w. none_no w)))
+          (keep (entered q (Tuple_value vs) env) (env_entered N types τ W S one at hi m q G env (Tuple_value vs) E (at_node_fits q t (Tuple_value vs) takes.0 h) away.0 (λ c z e k w. none_no w)))
       enters (Tuple_pattern ps) q t v G G' env keep at_home simple le away takes h worth E = tt
       enters (Record_pattern fs ps) q t (Record_value gs) G G' env keep at_home simple le away takes h worth E =
           out_known (λ x. Env_of (with_all_names W.sizing.size_at ps (1 + q) G') x) (record_parts fs gs) (λ vs. all_bound (1 + q) ps vs (entered q (Record_value gs) env))
           (λ vs e. let r = record_out fs ps (1 + q) t gs takes.1 h vs e in
           all_enter ps (1 + q) r.0 vs G' (entered q (Record_value gs) env) simple (omega (arith, le)) away.1 r.1 r.2 (subst (λ o. All_worth m ps (or_nothing o)) e worth)
-          (keep (entered q (Record_value gs) env) (env_entered N types τ W S one at hi m q G env (Record_value gs) E (at_node_fits q t (Record_value gs) takes.0 h) away.0 (λ c z e w. none_no w))))
+          (keep (entered q (Record_value gs) env) (env_entered N types τ W S one at hi m q G env (Record_value gs) E (at_node_fits q t (Record_value gs) takes.0 h) away.0 (λ c z e k w. none_no w))))
       enters (Record_pattern fs ps) q t v G G' env keep at_home simple le away takes h worth E = tt
 
       all_enter : (ps : Patterns Ref BindId) (q : ℕ) (ts : Sizes) (vs : List FlatValue) (G : Context) (env : FlatEnv) → All_parts W.sizing ps q → q + all_pattern_numbers ps ≤ at → All_nodes_away N types W at hi ps q → All_take N types W.sizing.size_at W.sizing.home what ps q ts → List_fit Of ts vs → All_worth m ps vs → Env_of G env

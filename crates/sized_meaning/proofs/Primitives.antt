@@ -42,12 +42,15 @@ use Rattle.fut_meaning.proofs.Data.{datum_of_as}
 use Rattle.fut_meaning.specs.Telling.{tells, primitive_tells}
 use Rattle.sized_meaning.proofs.Datas.{datum_fits}
 use Rattle.sized_meaning.proofs.Applications.{evaluates}
-use Rattle.sized_meaning.proofs.Reducing.{reduce_fits, scan_fits}
+use Rattle.sized_meaning.proofs.Reducing.{reduce_fits, reduce_comm_fits, scan_fits}
 use Rattle.fut_flat.specs.declared.prim.Folding.TheVariants as folding
 use Rattle.sized_meaning.proofs.First_order.{Done_with, done_gives}
 use Rattle.sized_meaning.proofs.Row_primitives.{many_numbers, numbers_are, reverse_fits, indices_fits, null_fits, head_fits, last_fits, init_fits, tail_fits, copy_fits, take_fits, drop_fits, rotate_fits, replicate_fits, concat_fits}
 use Rattle.sized_meaning.proofs.Sifting.{filter_fits, partition_fits}
 use Rattle.sized_meaning.proofs.Zipping.{zip_fits, unzip_fits, flatten_fits, transpose_fits}
+use Rattle.sized_meaning.proofs.Histogram.{reduce_by_index_fits}
+use Rattle.sized_meaning.proofs.Triples.{zip3_fits, unzip3_fits}
+use Rattle.sized_meaning.proofs.Scattering.{scatter_fits, unflatten_fits}
 use Rattle.sized_meaning.proofs.Scalar_primitives.{convert_fits, min_fits, max_fits, abs_fits, popc_fits, fold_fits}
 use Rattle.sized_meaning.proofs.Mapping.{array_of_rows, array_value, map_fits, One_of, alone_every, alone_long, gives_each, on_row, row_is_told, array_gives}
 
@@ -160,6 +163,7 @@ module _ (N : Names) (types : Sub) (τ : Meant) (W : World) (S : Sound N types W
   unfolding filled all_filled prim_size sized_type levels Fits
   filled_fits prim.Map at u pl U q d c = map_fits N types τ W S one m (q (Inferred 0)) (q (Inferred 1)) (d (Inferred 0)) (d (Inferred 1)) (c (Inferred 0)) (c (Inferred 1)) at
   filled_fits prim.Reduce at u pl U q d c = reduce_fits N types τ W S one m (q (Inferred 0)) (d (Inferred 0)) (c (Inferred 0)) at
+  filled_fits prim.ReduceComm at u pl U q d c = reduce_comm_fits N types τ W S one m (q (Inferred 0)) (d (Inferred 0)) (c (Inferred 0)) at
   filled_fits prim.Scan at u pl U q d c = scan_fits N types τ W S one m (q (Inferred 0)) (d (Inferred 0)) (c (Inferred 0)) at
   filled_fits prim.Filter at u pl U q d c = filter_fits N types τ W S one m (q (Inferred 0)) (d (Inferred 0)) (c (Inferred 0)) at no_frames
   filled_fits prim.Partition at u pl U q d c = partition_fits N types τ W S one m (q (Inferred 0)) (d (Inferred 0)) (c (Inferred 0)) at no_frames
@@ -183,6 +187,11 @@ module _ (N : Names) (types : Sub) (τ : Meant) (W : World) (S : Sound N types W
   filled_fits prim.Flatten at u pl U q d c = flatten_fits N types τ W S one m (q (Inferred 0)) (d (Inferred 0)) (c (Inferred 0)) at no_frames
   filled_fits prim.Zip at u pl U q d c = zip_fits N types τ W S one m (q (Inferred 0)) (q (Inferred 1)) (d (Inferred 0)) (d (Inferred 1)) (c (Inferred 0)) (c (Inferred 1)) at no_frames
   filled_fits prim.Unzip at u pl U q d c = unzip_fits N types τ W S one m (q (Inferred 0)) (q (Inferred 1)) (d (Inferred 0)) (d (Inferred 1)) (c (Inferred 0)) (c (Inferred 1)) at no_frames
+  filled_fits prim.Zip3 at u pl U q d c = zip3_fits N types τ W S one m (q (Inferred 0)) (q (Inferred 1)) (q (Inferred 2)) (d (Inferred 0)) (d (Inferred 1)) (d (Inferred 2)) (c (Inferred 0)) (c (Inferred 1)) (c (Inferred 2)) at no_frames
+  filled_fits prim.Unzip3 at u pl U q d c = unzip3_fits N types τ W S one m (q (Inferred 0)) (q (Inferred 1)) (q (Inferred 2)) (d (Inferred 0)) (d (Inferred 1)) (d (Inferred 2)) (c (Inferred 0)) (c (Inferred 1)) (c (Inferred 2)) at no_frames
+  filled_fits prim.Unflatten at u pl U q d c = unflatten_fits N types τ W S one m (q (Inferred 0)) (d (Inferred 0)) (c (Inferred 0)) at no_frames
+  filled_fits prim.Scatter at u pl U q d c = scatter_fits N types τ W S one m (q (Inferred 0)) (d (Inferred 0)) (c (Inferred 0)) at no_frames
+  filled_fits prim.ReduceByIndex at u pl U q d c = reduce_by_index_fits N types τ W S one m (q (Inferred 0)) (d (Inferred 0)) (c (Inferred 0)) at no_frames
   filled_fits (prim.Convert to from) at u pl U q d c = convert_fits N types τ W S one m at no_frames to from
   filled_fits (prim.Min t) at u pl U q d c = min_fits N types τ W S one m at no_frames t
   filled_fits (prim.Max t) at u pl U q d c = max_fits N types τ W S one m at no_frames t

@@ -3,6 +3,7 @@
 use Rattle.std.proofs.Common.{◌≡◌, ℕ, ◌≤◌, List, [], ◌∷◌, None, Bool, true, false, cond, refl, sym, subst, length, ◌++◌, ap, ◌∙◌, suc}
 use Rattle.fut_scalar.specs.declared.place.BindId.{BindId}
 use Rattle.fut_scalar.specs.declared.place.Place.{Place}
+use Rattle.fut_flat.specs.declared.prim.Primitive.{Primitive}
 use Rattle.fut_flat.specs.declared.prim.Primitive.TheVariants as prim
 use Rattle.fut_flat.specs.declared.prim.Ref.{Ref}
 use Rattle.fut_types.specs.declared.Head.TheVariants as head
@@ -12,10 +13,10 @@ use Rattle.fut_value.specs.Data.{Datum, Array_datum, listed, Shape}
 use Rattle.fut_meaning.specs.Arrays.{fresh, all_fresh, array}
 use Rattle.fut_meaning.specs.Datums.{as_value, datum_of}
 use Rattle.fut_meaning.specs.Flats.{FlatValue, flat_names}
-use Rattle.fut_meaning.specs.Jobs.{Reduce_each, Reduces, reduces, In_order, Reordered, order_kept, order_on, order_swapped, order_then, all_of, two_of, part_at, finished, job, prefixes_on}
+use Rattle.fut_meaning.specs.Jobs.{Reduce_each, Reduces, reduces, In_order, Reordered, order_kept, order_on, order_swapped, order_then, all_of, two_of, part_at, finished, job, prefixes_on, reduced}
 use Rattle.fut_meaning.specs.Meaning.{plain, called, called_on, job_of, row_told, Of_function}
-use Rattle.fut_meaning.specs.Outcomes.{Val, Wrong, and_then, Rel, the, Then, Both, both, stops_left, stops_right, sticks_left, sticks_right, Tree, element, neutral, node, elements, tree_gives, bracket}
-use Rattle.fut_meaning.specs.Telling.{by_function, worth_of, value_shape, is_function, data_told, tells, function_tells, primitive_tells}
+use Rattle.fut_meaning.specs.Outcomes.{Val, Wrong, and_then, Rel, the, Then, Both, both, stops_left, stops_right, sticks_left, sticks_right, Tree, element, neutral, node, elements, tree_gives, bracket, gives}
+use Rattle.fut_meaning.specs.Telling.{by_function, worth_of, value_shape, is_function, data_told, tells, function_tells, primitive_tells, Argument, first_shape}
 use Rattle.fut_meaning.specs.Values.{Scalar_value, Tuple_value, Record_value, Array_value, Primitive_value, no_value, value_and, Call}
 use Rattle.fut_meaning.proofs.Data.{datum_of_as}
 use Rattle.fut_meaning.proofs.Safe.{Every, every_left, every_right}
@@ -44,7 +45,7 @@ gives_both P Q R m m' k h g go _ _ (stops_right x) = tt
 gives_both P Q R m m' k h g go _ _ (sticks_left x) = tt
 gives_both P Q R m m' k h g go _ _ (sticks_right x) = tt
 
-gives_all_of : {A B : Type 0} (P : A → Type 0) (Q : B → Type 0) (g : A → Rel B) → ((a : A) → P a → Gives Q (g a)) → (xs : List A) → Every P xs → Gives (λ ys. Every Q ys × (length ys ≡ length xs)) (all_of g xs)
+pub gives_all_of : {A B : Type 0} (P : A → Type 0) (Q : B → Type 0) (g : A → Rel B) → ((a : A) → P a → Gives Q (g a)) → (xs : List A) → Every P xs → Gives (λ ys. Every Q ys × (length ys ≡ length xs)) (all_of g xs)
 gives_all_of P Q g h [] e = gives_exact (λ ys. Every Q ys × (length ys ≡ 0)) 0 (Val []) (tt, refl)
 gives_all_of P Q g h (x ∷ xs) e = gives_both Q (λ ys. Every Q ys × (length ys ≡ length xs)) (λ ys. Every Q ys × (length ys ≡ length (x ∷ xs))) (g x) (all_of g xs) _ (h x e.0) (gives_all_of P Q g h xs e.1)
     (λ y ys q qs. gives_exact (λ ys. Every Q ys × (length ys ≡ length (x ∷ xs))) 0 (Val (y ∷ ys)) ((q, qs.0), ap suc qs.1))
@@ -64,7 +65,7 @@ every_in_order : {A : Type 0} (P : A → Type 0) (any : Bool) (xs ys : List A) �
 every_in_order P true xs ys q e = every_reordered P q e
 every_in_order P false xs ys q e = subst (Every P) q e
 
-gives_reduced : (P : Datum → Type 0) (tight any : Bool) (F : Datum → List Datum → Type 0) (f : List Datum → Rel Datum) (ne : Datum) → P ne → ((a b : Datum) → P a → P b → Gives P (two_of f a b)) → (xs : List Datum) → Every P xs → Gives P (Reduces tight any F f ne xs)
+pub gives_reduced : (P : Datum → Type 0) (tight any : Bool) (F : Datum → List Datum → Type 0) (f : List Datum → Rel Datum) (ne : Datum) → P ne → ((a b : Datum) → P a → P b → Gives P (two_of f a b)) → (xs : List Datum) → Every P xs → Gives P (Reduces tight any F f ne xs)
 gives_reduced P tight any F f ne given h xs e _ _ (reduces {ys} {o} {n = count} fits order (bracket t q w x)) = gives_tree P (two_of f) ne given h t (subst (Every P) (sym q) (every_in_order P any xs ys order e)) o count x
 
 pub every_both : {A : Type 0} (P : A → Type 0) (xs ys : List A) → Every P xs → Every P ys → Every P (xs ++ ys)
@@ -101,7 +102,7 @@ module _ (N : Names) (types : Sub) (τ : Meant) (W : World) (S : Sound N types W
 
   module _ (a : Size) (data_a : Data a) (closed_a : Each (Scoped Any_free) 0 a) (at : Place) (φ : Frames) (f : FlatValue) (hf : Fits N τ W.sizing (calls W) m φ (Fun 0 a (Fun 0 a a)) f) where
     -- the operator on two elements
-    combines : (ψ : Frames) (d e : Datum) → Has_datum N τ m ψ a d → Has_datum N τ m ψ a e → Gives (Has_datum N τ m ψ a) (called (means W) f (d ∷ e ∷ []))
+    pub combines : (ψ : Frames) (d e : Datum) → Has_datum N τ m ψ a d → Has_datum N τ m ψ a e → Gives (Has_datum N τ m ψ a) (called (means W) f (d ∷ e ∷ []))
     unfolding Fits
     combines ψ d e hd he =
         let F : ℕ → ℕ = λ i. word (as_value d) in
@@ -116,53 +117,60 @@ module _ (N : Names) (types : Sub) (τ : Meant) (W : World) (S : Sound N types W
     abbrev Reduced : Frames → FlatValue → Type 0
     Reduced ψ w = Fits N τ W.sizing (calls W) m ψ a w
 
-    reduce_job : (ψ : Frames) (ne d : Datum) → Has_datum N τ m ψ a ne → Has_datum N τ m ψ (Level (Bound 0 0) a) d
-        → Gives (Reduced ψ) (Then (the (job false (row_told ((flat_names (told W)).lang W.tops) (Of_function prim.Reduce f (ne ∷ d ∷ []))) prim.Reduce at (ne ∷ d ∷ []))) (job_of ((flat_names (told W)).lang W.tops) (plain W.tight) W.budget (means W) 2 f))
-    unfolding Has_datum job plain
-    reduce_job ψ ne (Array_datum row ds) hn h =
+    -- a reduction in any order or in theirs
+    reduce_job : (any : Bool) (ψ : Frames) (ne d : Datum) → Has_datum N τ m ψ a ne → Has_datum N τ m ψ (Level (Bound 0 0) a) d
+        → Gives (Reduced ψ) (Then (the (reduced false any ne d)) (job_of ((flat_names (told W)).lang W.tops) (plain W.tight) W.budget (means W) 2 f))
+    unfolding Has_datum plain
+    reduce_job any ψ ne (Array_datum row ds) hn h =
         let rows : List Datum = listed ds in
-        gives_then (λ j. j ≡ Reduce_each false ne (rows ∷ []) (λ ds. and_then (part_at 0 ds) fresh)) (Reduced ψ) _ _
-        (gives_exact _ 0 (Val (Reduce_each false ne (rows ∷ []) (λ ds. and_then (part_at 0 ds) fresh))) refl)
+        gives_then (λ j. j ≡ Reduce_each any ne (rows ∷ []) (λ ds. and_then (part_at 0 ds) fresh)) (Reduced ψ) _ _
+        (gives_exact _ 0 (Val (Reduce_each any ne (rows ∷ []) (λ ds. and_then (part_at 0 ds) fresh))) refl)
         (λ j q. subst (λ z. Gives (Reduced ψ) (job_of ((flat_names (told W)).lang W.tops) (plain W.tight) W.budget (means W) 2 f z)) (sym q)
         (gives_then (Has_datum N τ m ψ a) (Reduced ψ) _ _
         (gives_then (λ ys. Every (Has_datum N τ m ψ a) ys × (length ys ≡ length (rows ∷ []))) (Has_datum N τ m ψ a) _ _
-        (gives_all_of (Every (Has_datum N τ m ψ a)) (Has_datum N τ m ψ a) (Reduces W.tight false ((plain W.tight).operator_fits ((flat_names (told W)).lang W.tops) W.budget 2 f false) (called_on 2 (means W) f) ne) (λ xs e. gives_reduced (Has_datum N τ m ψ a) W.tight false ((plain W.tight).operator_fits ((flat_names (told W)).lang W.tops) W.budget 2 f false) (called_on 2 (means W) f) ne hn (λ x y p q. combines ψ x y p q) xs e) (rows ∷ []) (every_listed (Has_datum N τ m ψ a) ds h.2, tt))
+        (gives_all_of (Every (Has_datum N τ m ψ a)) (Has_datum N τ m ψ a) (Reduces W.tight any ((plain W.tight).operator_fits ((flat_names (told W)).lang W.tops) W.budget 2 f any) (called_on 2 (means W) f) ne) (λ xs e. gives_reduced (Has_datum N τ m ψ a) W.tight any ((plain W.tight).operator_fits ((flat_names (told W)).lang W.tops) W.budget 2 f any) (called_on 2 (means W) f) ne hn (λ x y p q. combines ψ x y p q) xs e) (rows ∷ []) (every_listed (Has_datum N τ m ψ a) ds h.2, tt))
         (λ ys e. first_given ψ ys e.0))
         (λ x k. gives_exact (Reduced ψ) 0 (Val (as_value x)) (datum_fits N τ W.sizing (calls W) m ψ a data_a (as_value x) x (datum_of_as Ref BindId (Unit {0}) x) k))))
-    reduce_job ψ ne d hn h = absurd h
+    reduce_job any ψ ne d hn h = absurd h
 
-    module _ (ψ' : Frames) (ne : FlatValue) (hn : Fits N τ W.sizing (calls W) m ψ' a ne) where
-      reduce_gives : (ψ : Frames) (xs : FlatValue) → Fits N τ W.sizing (calls W) m ψ (Level (Bound 0 0) a) xs → Gives (Reduced ψ) (means W (Call (Primitive_value prim.Reduce at (value_and f (value_and ne no_value))) xs))
-      unfolding Fits plain
-      reduce_gives ψ xs hx =
-          evaluates N types τ W S one (Reduced ψ) (Call (Primitive_value prim.Reduce at (value_and f (value_and ne no_value))) xs)
-          (gives_then (λ ds. (d : Datum) × Has_datum N τ m ψ a d × (ds ≡ d ∷ hx.datum ∷ [])) (Reduced ψ) _ _
-          (gives_exact _ 0 _ (out_then (Has_datum N τ m ψ a) (λ ds. (d : Datum) × Has_datum N τ m ψ a d × (ds ≡ d ∷ hx.datum ∷ [])) (datum_of ne) _
-          (out_of (Has_datum N τ m ψ a) (datum_of ne) (λ d e. datum_anywhere N types τ W S one m a closed_a ψ' ψ d (fits_datum N τ W.sizing (calls W) m ψ' a data_a ne d e hn)))
-          (λ d x. subst (λ o. Out_fits (λ ds. (d : Datum) × Has_datum N τ m ψ a d × (ds ≡ d ∷ hx.datum ∷ [])) (and_then (and_then o (λ e. and_then (Val []) (λ ds. Val (e ∷ ds)))) (λ ds. Val (d ∷ ds)))) (sym hx.is_datum) (d, x, refl))))
-          (λ ds q. subst (λ z. Gives (Reduced ψ) (Then (the (job false (row_told ((flat_names (told W)).lang W.tops) (Of_function prim.Reduce f z)) prim.Reduce at z)) (job_of ((flat_names (told W)).lang W.tops) (plain W.tight) W.budget (means W) 2 f))) (sym q.2) (reduce_job ψ q.0 hx.datum q.1 hx.fits)))
+    -- a primitive that reduces an array
+    module _ (p : Primitive) (any : Bool) (same_job : (row : Shape) (ne d : Datum) → job false row p at (ne ∷ d ∷ []) ≡ reduced false any ne d) (same_told : (bs : List Argument) → primitive_tells p bs ≡ first_shape bs)
+        (waits : (Q : FlatValue → Type 0) (ne : FlatValue) → Gives Q (gives 0 (Primitive_value p at (value_and f (value_and ne no_value)))) → Gives Q (calls W (Primitive_value p at (value_and f no_value)) ne))
+        (runs : (Q : FlatValue → Type 0) (ne xs : FlatValue) → Gives Q (Then (the (and_then (datum_of ne) (λ d. and_then (and_then (datum_of xs) (λ e. and_then (Val []) (λ ds. Val (e ∷ ds)))) (λ ds. Val (d ∷ ds))))) (λ ds. Then (the (job false (row_told ((flat_names (told W)).lang W.tops) (Of_function p f ds)) p at ds)) (job_of ((flat_names (told W)).lang W.tops) (plain W.tight) W.budget (means W) 2 f)))
+        → Gives Q (calls W (Primitive_value p at (value_and f (value_and ne no_value))) xs)) where
+      module _ (ψ' : Frames) (ne : FlatValue) (hn : Fits N τ W.sizing (calls W) m ψ' a ne) where
+        reduce_gives : (ψ : Frames) (xs : FlatValue) → Fits N τ W.sizing (calls W) m ψ (Level (Bound 0 0) a) xs → Gives (Reduced ψ) (calls W (Primitive_value p at (value_and f (value_and ne no_value))) xs)
+        unfolding Fits
+        reduce_gives ψ xs hx = runs (Reduced ψ) ne xs
+            (gives_then (λ ds. (d : Datum) × Has_datum N τ m ψ a d × (ds ≡ d ∷ hx.datum ∷ [])) (Reduced ψ) _ _
+            (gives_exact _ 0 _ (out_then (Has_datum N τ m ψ a) (λ ds. (d : Datum) × Has_datum N τ m ψ a d × (ds ≡ d ∷ hx.datum ∷ [])) (datum_of ne) _
+            (out_of (Has_datum N τ m ψ a) (datum_of ne) (λ d e. datum_anywhere N types τ W S one m a closed_a ψ' ψ d (fits_datum N τ W.sizing (calls W) m ψ' a data_a ne d e hn)))
+            (λ d x. subst (λ o. Out_fits (λ ds. (d : Datum) × Has_datum N τ m ψ a d × (ds ≡ d ∷ hx.datum ∷ [])) (and_then (and_then o (λ e. and_then (Val []) (λ ds. Val (e ∷ ds)))) (λ ds. Val (d ∷ ds)))) (sym hx.is_datum) (d, x, refl))))
+            (λ ds q. subst (λ z. Gives (Reduced ψ) (Then (the (job false (row_told ((flat_names (told W)).lang W.tops) (Of_function p f z)) p at z)) (job_of ((flat_names (told W)).lang W.tops) (plain W.tight) W.budget (means W) 2 f))) (sym q.2)
+            (subst (λ o. Gives (Reduced ψ) (Then (the o) (job_of ((flat_names (told W)).lang W.tops) (plain W.tight) W.budget (means W) 2 f))) (sym (same_job _ q.0 hx.datum)) (reduce_job any ψ q.0 hx.datum q.1 hx.fits))))
 
-      -- it tells the shape of the neutral element
-      reduce_tells : (ψ : Frames) → Tells_right N τ W.sizing m ψ 1 (Level (Bound 0 0) a) a (Primitive_value prim.Reduce at (value_and f (value_and ne no_value)))
-      unfolding Fits tells data_told primitive_tells
-      reduce_tells ψ = (
-        refl,
-        λ dr low G h hx. subst (λ c. Has_shape N τ m (push G ψ) a (by_function (function_tells W.sizing (value_and f (value_and ne no_value))) (primitive_tells prim.Reduce (cond c (cond (is_function ne) ((h, None) ∷ []) ((value_shape ne, worth_of ne) ∷ (h, None) ∷ [])) ((value_shape f, worth_of f) ∷ cond (is_function ne) ((h, None) ∷ []) ((value_shape ne, worth_of ne) ∷ (h, None) ∷ [])))))) (sym hf.0.0)
-            (subst (λ c. Has_shape N τ m (push G ψ) a (by_function (function_tells W.sizing (value_and f (value_and ne no_value))) (primitive_tells prim.Reduce (cond c ((h, None) ∷ []) ((value_shape ne, worth_of ne) ∷ (h, None) ∷ []))))) (sym (not_function ψ' a ne data_a hn))
-            (shape_anywhere N types τ W S one m a closed_a ψ' (push G ψ) (value_shape ne) (value_shaped N τ W.sizing (calls W) m ψ' a data_a ne hn))),
+        -- it tells the shape of the neutral element
+        reduce_tells : (ψ : Frames) → Tells_right N τ W.sizing m ψ 1 (Level (Bound 0 0) a) a (Primitive_value p at (value_and f (value_and ne no_value)))
+        unfolding Fits tells data_told
+        reduce_tells ψ = (
+          refl,
+          λ dr low G h hx. subst (λ c. Has_shape N τ m (push G ψ) a (by_function (function_tells W.sizing (value_and f (value_and ne no_value))) (primitive_tells p (cond c (cond (is_function ne) ((h, None) ∷ []) ((value_shape ne, worth_of ne) ∷ (h, None) ∷ [])) ((value_shape f, worth_of f) ∷ cond (is_function ne) ((h, None) ∷ []) ((value_shape ne, worth_of ne) ∷ (h, None) ∷ [])))))) (sym hf.0.0)
+              (subst (λ c. Has_shape N τ m (push G ψ) a (by_function (function_tells W.sizing (value_and f (value_and ne no_value))) (primitive_tells p (cond c ((h, None) ∷ []) ((value_shape ne, worth_of ne) ∷ (h, None) ∷ []))))) (sym (not_function ψ' a ne data_a hn))
+              (subst (λ t. Has_shape N τ m (push G ψ) a (by_function (function_tells W.sizing (value_and f (value_and ne no_value))) t)) (sym (same_told ((value_shape ne, worth_of ne) ∷ (h, None) ∷ [])))
+              (shape_anywhere N types τ W S one m a closed_a ψ' (push G ψ) (value_shape ne) (value_shaped N τ W.sizing (calls W) m ψ' a data_a ne hn)))),
+        )
+
+        reduce_waits : (ψ : Frames) → Fits N τ W.sizing (calls W) m ψ (Fun 1 (Level (Bound 0 0) a) a) (Primitive_value p at (value_and f (value_and ne no_value)))
+        unfolding Fits
+        reduce_waits ψ = (reduce_tells ψ, λ G xs eG hx. gives_as (Reduced (push G ψ)) (λ w. (G' : ℕ → ℕ) × ((i : ℕ) → i ≤ 1 → G' i ≡ G i) × Fits N τ W.sizing (calls W) m (push G' ψ) a w) _ (reduce_gives (push G ψ) xs hx) (λ w x. (G, (λ i l. refl), x)))
+
+      reduce_starts : (ψ : Frames) → Fits N τ W.sizing (calls W) m ψ (Fun 0 a (Fun 1 (Level (Bound 0 0) a) a)) (Primitive_value p at (value_and f no_value))
+      unfolding Fits Data
+      reduce_starts ψ = (
+        (refl, λ dr. absurd dr),
+        λ G ne eG hn. waits (λ w. (G' : ℕ → ℕ) × ((i : ℕ) → i ≤ 0 → G' i ≡ G i) × Fits N τ W.sizing (calls W) m (push G' ψ) (Fun 1 (Level (Bound 0 0) a) a) w) ne
+            (gives_exact (λ w. (G' : ℕ → ℕ) × ((i : ℕ) → i ≤ 0 → G' i ≡ G i) × Fits N τ W.sizing (calls W) m (push G' ψ) (Fun 1 (Level (Bound 0 0) a) a) w) 0 (Val (Primitive_value p at (value_and f (value_and ne no_value)))) (G, (λ i l. refl), reduce_waits (push G ψ) ne hn (push G ψ))),
       )
-
-      reduce_waits : (ψ : Frames) → Fits N τ W.sizing (calls W) m ψ (Fun 1 (Level (Bound 0 0) a) a) (Primitive_value prim.Reduce at (value_and f (value_and ne no_value)))
-      unfolding Fits
-      reduce_waits ψ = (reduce_tells ψ, λ G xs eG hx. gives_as (Reduced (push G ψ)) (λ w. (G' : ℕ → ℕ) × ((i : ℕ) → i ≤ 1 → G' i ≡ G i) × Fits N τ W.sizing (calls W) m (push G' ψ) a w) _ (reduce_gives (push G ψ) xs hx) (λ w x. (G, (λ i l. refl), x)))
-
-    reduce_starts : (ψ : Frames) → Fits N τ W.sizing (calls W) m ψ (Fun 0 a (Fun 1 (Level (Bound 0 0) a) a)) (Primitive_value prim.Reduce at (value_and f no_value))
-    unfolding Fits Data
-    reduce_starts ψ = (
-      (refl, λ dr. absurd dr),
-      λ G ne eG hn. evaluates N types τ W S one _ (Call (Primitive_value prim.Reduce at (value_and f no_value)) ne)
-          (gives_exact (λ w. (G' : ℕ → ℕ) × ((i : ℕ) → i ≤ 0 → G' i ≡ G i) × Fits N τ W.sizing (calls W) m (push G' ψ) (Fun 1 (Level (Bound 0 0) a) a) w) 0 (Val (Primitive_value prim.Reduce at (value_and f (value_and ne no_value)))) (G, (λ i l. refl), reduce_waits (push G ψ) ne hn (push G ψ))),
-    )
 
     -- ---- scan
 
@@ -225,11 +233,29 @@ module _ (N : Names) (types : Sub) (τ : Meant) (W : World) (S : Sound N types W
     )
 
   pub reduce_fits : (a : Size) → Data a → Each (Scoped Any_free) 0 a → (at : Place) → Fits N τ W.sizing (calls W) m no_frames (Fun 0 (Fun 0 a (Fun 0 a a)) (Fun 0 a (Fun 1 (Level (Bound 0 0) a) a))) (Primitive_value prim.Reduce at no_value)
-  unfolding Fits Data
+  unfolding Fits Data job plain primitive_tells
   reduce_fits a d c at = (
     (refl, λ dr. absurd dr),
     λ F f eF hf. evaluates N types τ W S one _ (Call (Primitive_value prim.Reduce at no_value) f)
-        (gives_exact (λ w. (F' : ℕ → ℕ) × ((i : ℕ) → i ≤ 0 → F' i ≡ F i) × Fits N τ W.sizing (calls W) m (push F' no_frames) (Fun 0 a (Fun 1 (Level (Bound 0 0) a) a)) w) 0 (Val (Primitive_value prim.Reduce at (value_and f no_value))) (F, (λ i l. refl), reduce_starts a d c at (push F no_frames) f hf (push F no_frames))),
+        (gives_exact (λ w. (F' : ℕ → ℕ) × ((i : ℕ) → i ≤ 0 → F' i ≡ F i) × Fits N τ W.sizing (calls W) m (push F' no_frames) (Fun 0 a (Fun 1 (Level (Bound 0 0) a) a)) w) 0 (Val (Primitive_value prim.Reduce at (value_and f no_value))) (
+          F,
+          (λ i l. refl),
+          reduce_starts a d c at (push F no_frames) f hf prim.Reduce false (λ row ne x. refl) (λ bs. refl) (λ Q ne h. evaluates N types τ W S one Q (Call (Primitive_value prim.Reduce at (value_and f no_value)) ne) h)
+              (λ Q ne xs h. evaluates N types τ W S one Q (Call (Primitive_value prim.Reduce at (value_and f (value_and ne no_value))) xs) h) (push F no_frames),
+        )),
+  )
+
+  pub reduce_comm_fits : (a : Size) → Data a → Each (Scoped Any_free) 0 a → (at : Place) → Fits N τ W.sizing (calls W) m no_frames (Fun 0 (Fun 0 a (Fun 0 a a)) (Fun 0 a (Fun 1 (Level (Bound 0 0) a) a))) (Primitive_value prim.ReduceComm at no_value)
+  unfolding Fits Data job plain primitive_tells
+  reduce_comm_fits a d c at = (
+    (refl, λ dr. absurd dr),
+    λ F f eF hf. evaluates N types τ W S one _ (Call (Primitive_value prim.ReduceComm at no_value) f)
+        (gives_exact (λ w. (F' : ℕ → ℕ) × ((i : ℕ) → i ≤ 0 → F' i ≡ F i) × Fits N τ W.sizing (calls W) m (push F' no_frames) (Fun 0 a (Fun 1 (Level (Bound 0 0) a) a)) w) 0 (Val (Primitive_value prim.ReduceComm at (value_and f no_value))) (
+          F,
+          (λ i l. refl),
+          reduce_starts a d c at (push F no_frames) f hf prim.ReduceComm true (λ row ne x. refl) (λ bs. refl) (λ Q ne h. evaluates N types τ W S one Q (Call (Primitive_value prim.ReduceComm at (value_and f no_value)) ne) h)
+              (λ Q ne xs h. evaluates N types τ W S one Q (Call (Primitive_value prim.ReduceComm at (value_and f (value_and ne no_value))) xs) h) (push F no_frames),
+        )),
   )
 
   pub scan_fits : (a : Size) → Data a → Each (Scoped Any_free) 0 a → (at : Place) → Fits N τ W.sizing (calls W) m no_frames (Fun 0 (Fun 0 a (Fun 0 a a)) (Fun 0 a (Fun 1 (Level (Bound 0 0) a) (Level (Bound 0 0) a)))) (Primitive_value prim.Scan at no_value)

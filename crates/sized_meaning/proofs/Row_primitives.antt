@@ -233,7 +233,7 @@ module _ (N : Names) (types : Sub) (τ : Meant) (W : World) (S : Sound N types W
     data_B = data_array (Bound 0 0) a data_a
 
     -- a number of rows is worth what the argument is
-    counted_worth : (F : ℕ → ℕ) (v : FlatValue) → F 0 ≡ word v → Fits N τ W.sizing (calls W) m (push F φ) i64_size v → count (worth_of v) ≡ F 0
+    pub counted_worth : (F : ℕ → ℕ) (v : FlatValue) → F 0 ≡ word v → Fits N τ W.sizing (calls W) m (push F φ) i64_size v → count (worth_of v) ≡ F 0
     unfolding Fits word
     counted_worth F (Scalar_value (scalar.Int t n)) e h = sym e
     counted_worth F (Scalar_value (scalar.Bool c)) e h = absurd (let z : sort.Bool ≡ sort.Int I64 = h in cc)

@@ -13,7 +13,8 @@ use Rattle.fut_meaning.specs.Arrays.{fitting, most_words, size, inner, rows_of, 
 use Rattle.fut_meaning.specs.Jobs.{done, alone, beside, tupled, part_shape, tuple_part, column, inner_rows, joined, part_at, crossed, job}
 use Rattle.fut_meaning.specs.Meaning.{plain}
 use Rattle.fut_meaning.specs.Outcomes.{Out, Val, and_then}
-use Rattle.fut_meaning.specs.Telling.{row_of as told_row, size_of as told_size, data_told, tells, primitive_tells}
+use Rattle.fut_meaning.specs.Telling.{data_told, tells, primitive_tells}
+use Rattle.fut_meaning.specs.Places.{row_of as told_row, size_of as told_size}
 use Rattle.fut_meaning.specs.Values.{Primitive_value, no_value, value_and, Call}
 use Rattle.fut_meaning.proofs.Safe.{Every}
 use Rattle.sized_types.specs.Sizes.{Bound, Size, Level, Fun}
@@ -37,7 +38,7 @@ each_out_fits P Q g go [] e = (tt, refl)
 each_out_fits P Q g go (x ∷ xs) e = out_then Q (λ ys. Every Q ys × (length ys ≡ length (x ∷ xs))) (g x) (λ y. and_then (each_out g xs) (λ ys. Val (y ∷ ys))) (go x e.0)
     (λ y hy. out_then (λ ys. Every Q ys × (length ys ≡ length xs)) (λ ys. Every Q ys × (length ys ≡ length (x ∷ xs))) (each_out g xs) (λ ys. Val (y ∷ ys)) (each_out_fits P Q g go xs e.1) (λ ys q. ((hy, q.0), ap suc q.1)))
 
-part_out : (P : Datum → Type 0) (k : ℕ) (ds : List Datum) → Every P ds → Out_fits P (part_at k ds)
+pub part_out : (P : Datum → Type 0) (k : ℕ) (ds : List Datum) → Every P ds → Out_fits P (part_at k ds)
 part_out P k [] e = tt
 part_out P zero (d ∷ ds) e = e.0
 part_out P (suc k) (d ∷ ds) e = part_out P k ds e.1
@@ -113,7 +114,7 @@ module _ (N : Names) (types : Sub) (τ : Meant) (W : World) (S : Sound N types W
     second_part ψ (Tuple_datum no_datum) h = absurd h
     second_part ψ d h = absurd h
 
-    column_out : (ψ : Frames) (k : ℕ) (c : Size) (row : Shape) (ds : List Datum) → length ds ≡ number m ψ (Bound 0 0) → ((d : Datum) → Has_datum N τ m ψ (pair_size a b) d → Out_fits (Has_datum N τ m ψ c) (tuple_part k d)) → Has_shape N τ m ψ c (part_shape k row) → Every (Has_datum N τ m ψ (pair_size a b)) ds → Out_fits (Has_datum N τ m ψ (Level (Bound 0 0) c)) (column k (row, ds))
+    pub column_out : (ψ : Frames) (k : ℕ) (c : Size) (row : Shape) (ds : List Datum) → length ds ≡ number m ψ (Bound 0 0) → ((d : Datum) → Has_datum N τ m ψ (pair_size a b) d → Out_fits (Has_datum N τ m ψ c) (tuple_part k d)) → Has_shape N τ m ψ c (part_shape k row) → Every (Has_datum N τ m ψ (pair_size a b)) ds → Out_fits (Has_datum N τ m ψ (Level (Bound 0 0) c)) (column k (row, ds))
     column_out ψ k c row ds l go h e = out_then (λ ys. Every (Has_datum N τ m ψ c) ys × (length ys ≡ length ds)) (Has_datum N τ m ψ (Level (Bound 0 0) c)) (each_out (tuple_part k) ds) (λ ys. Val (Array_datum (part_shape k row) (datums ys)))
         (each_out_fits (Has_datum N τ m ψ (pair_size a b)) (Has_datum N τ m ψ c) (tuple_part k) go ds e)
         (λ ys q. array_of_rows N types τ W S one m ψ (Bound 0 0) c (part_shape k row) ys (q.1 ∙ l) h q.0)

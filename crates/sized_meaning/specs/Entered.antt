@@ -3,7 +3,7 @@ use Rattle.std.specs.Prelude.{◌≡◌, ℕ, Bool, true, ◌&&◌, [], ◌∷�
 use Rattle.fut_typing.specs.Names.{Names, AreNames}
 use Rattle.fut_value.specs.Data.{Shape}
 use Rattle.fut_meaning.specs.Accessors.{count_of}
-use Rattle.fut_meaning.specs.Found.{Sizing, Found, chosen_shape}
+use Rattle.fut_meaning.specs.Found.{Sizing, Found, chosen_shape, is_number}
 use Rattle.fut_meaning.specs.Telling.{worth_of, value_shape, found, tells}
 use Rattle.fut_meaning.specs.Flats.{FlatValue, FlatEnv}
 use Rattle.fut_meaning.specs.Meaning.{row_told, fits_type, Of_literal}
@@ -23,10 +23,10 @@ abbrev pub none_chosen : ℕ → ℕ
 none_chosen i = 0
 
 module _ (N : Names) (τ : Meant) (Z : Sizing) (m : Worth) where
-  -- the pattern at node q took a value of its sized type; a name that is bound there is worth it; and a function tells right
+  -- the pattern at node q took a value of its sized type; a name that is bound there to a number is worth it; and a function tells right
   pub record Right_entry (q : ℕ) (v : FlatValue) : Type 0 where
     pub shape : Reads N τ m no_frames (Z.size_at q) (value_shape v)
-    pub named : (b : ℕ) (n : ℤ) → Z.home b ≡ q → worth_of v ≡ Some n → count_of n ≡ m (Name b)
+    pub named : (b : ℕ) (n : ℤ) → Z.home b ≡ q → is_number (Z.size_at q) ≡ true → worth_of v ≡ Some n → count_of n ≡ m (Name b)
     pub told : (k : ℕ) (p r : Size) → Z.size_at q ≡ Fun k p r → is_known p && gives_chosen k r ≡ true → Reads N τ m (push none_chosen no_frames) r (tells Z v (chosen_shape Z.fields p ∷ []))
 
   abbrev pub All_entered : FlatEnv → Type 0

@@ -6,12 +6,13 @@ use Rattle.fut_types.specs.declared.Head.TheVariants as head
 use Rattle.fut_types.specs.Shapes.{place}
 use Rattle.fut_typing.specs.Names.{Names, AreNames}
 use Rattle.fut_value.specs.Data.{Shape, Shapes, Named_shapes}
-use Rattle.fut_meaning.specs.Found.{field_shape, size_in, type_in, told_shape}
+use Rattle.fut_meaning.specs.Found.{told_shape}
+use Rattle.fut_meaning.specs.Places.{Path, size_place, type_place, size_of, at_path, field_shape}
 use Rattle.sized_types.specs.Sizes.{Free, Dim, At, Variable, is_variable, Size, Hole, Open, Level, Built, Fun, Sizes, no_size, size_and}
 use Rattle.sized_types.specs.Standing.{stands, has_hole}
 use Rattle.fut_sizes.specs.Rules.{Each_hole}
 use Rattle.fut_sizes.specs.Suiting.{Each}
-use Rattle.sized_meaning.specs.Worth.{Worth, free, Frames, number}
+use Rattle.sized_meaning.specs.Worth.{Worth, Frames, number}
 use Rattle.sized_meaning.specs.Shapes.{Meant, exactly, On_array_shape, On_tuple_shape, On_record_shape, First_shape, Has_shape}
 
 -- the names of a record's fields are in the order of its parts, from a part on
@@ -98,15 +99,15 @@ module _ (N : Names) (τ : Meant) where
 
 -- ---- what is found
 
--- a size that is found in the shape of a value is what it is worth there, and a type variable what it stands for
+-- at the place of a size the shape of a value says what it is worth there, and at that of a type variable what it stands for
 abbrev pub FoundIsRight : Type 0
 FoundIsRight = (N : Names) (fields : ℕ → List Text) (τ : Variable → Shape) (m : Worth) (φ : Frames) (t : Size) (h : Shape) → Fields_are N fields → Reads N (exactly τ) m φ t h
-    → ((x : Dim) (n : ℕ) → size_in fields x t h ≡ Some n → n ≡ number m φ x) × (One_shape_each τ → (v : Variable) (k : Shape) → type_in fields v t h ≡ Some k → k ≡ τ v)
+    → ((x : Dim) (p : Path) → size_place fields x t ≡ Some p → size_of (at_path p h) ≡ number m φ x) × (One_shape_each τ → (v : Variable) (p : Path) → type_place fields v t ≡ Some p → at_path p h ≡ τ v)
 
--- and those that stand in the type are found
+-- and what stands in the type of data has a place there
 abbrev pub StandingIsFound : Type 0
-StandingIsFound = (N : Names) (fields : ℕ → List Text) (τ : Variable → Shape) (m : Worth) (φ : Frames) (t : Size) (h : Shape) → Fields_are N fields → Formed fields t → Has_shape N (exactly τ) m φ t h
-    → ((d : Free) → stands t d ≡ true → size_in fields (At d) t h ≡ Some (free m d)) × (One_shape_each τ → (v : Variable) → has_hole t v ≡ true → type_in fields v t h ≡ Some (τ v))
+StandingIsFound = (fields : ℕ → List Text) (t : Size) → Formed fields t
+    → ((d : Free) → stands t d ≡ true → (p : Path) × (size_place fields (At d) t ≡ Some p)) × ((v : Variable) → has_hole t v ≡ true → (p : Path) × (type_place fields v t ≡ Some p))
 
 -- where the numbers of sizes and the shapes of type variables are right, so is the shape that is told of data
 abbrev pub ToldIsRight : Type 0

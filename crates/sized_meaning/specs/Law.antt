@@ -1,12 +1,16 @@
 -- Each value that a sized term may give is of its sized type. It is said here of the terms that use names and names of sizes,
--- the primitives of the list below, reckon with scalars, make and update arrays, take elements, slices and fields, make tuples
--- and functions, say types, apply functions, bind names by lets, choose by conditions and take turns in loops. Patterns may take
--- the parts of tuples and records, and name sizes.
-use Rattle.std.specs.Prelude.{◌≡◌, ◌⊎◌, ℕ, suc, ◌+◌, Bool, true, false, List, [], ◌∷◌, Some, None, ℤ}
+-- the primitives of the list below, reckon with scalars, make and update arrays, take elements, slices and parts, make ranges,
+-- tuples, records and functions, say types, coerce to constants, apply functions, bind names by lets, also those of functions of
+-- one type, choose by conditions and take turns in loops. Patterns may take the parts of tuples and records, and name sizes.
+use Rattle.std.specs.Prelude.{◌≡◌, ◌⊎◌, ℕ, suc, ◌+◌, ◌^◌, ◌<◌, Bool, true, false, List, [], ◌∷◌, map, Some, ℤ}
 use Rattle.fut_ast.specs.Sorts.{Text}
 use Rattle.fut_sizes.specs.WrittenSizes.{part_of}
-use Rattle.fut_sizes.specs.Operations.{value_of, is_literal, slice_size}
+use Rattle.fut_sizes.specs.Operations.{value_of, is_literal, slice_size, many, range_of, element_ty, is_i64}
+use Rattle.fut_ast.specs.declared.node.End.{End}
+use Rattle.fut_ast.specs.declared.node.End.TheVariants as end
 use Rattle.fut_scalar.specs.declared.scalar.IntType.{IntType}
+use Rattle.fut_scalar.specs.declared.scalar.IntType.TheVariants as int
+use Rattle.fut_types.specs.declared.Head.{Head}
 use Rattle.fut_types.specs.declared.Head.TheVariants as head
 use Rattle.fut_flat.specs.declared.act.Part.{Part}
 use Rattle.fut_flat.specs.declared.act.Part.TheVariants as part
@@ -14,28 +18,28 @@ use Rattle.fut_flat.specs.declared.prim.Primitive.{Primitive}
 use Rattle.fut_flat.specs.declared.prim.Primitive.TheVariants as prim
 use Rattle.fut_flat.specs.declared.prim.Ref.TheVariants as ref
 use Rattle.fut_flat.specs.Numbers.{pattern_numbers, all_pattern_numbers, own_numbers, numbers, turn_numbers}
-use Rattle.fut_flat.specs.Terms.{Operation, Bound_pattern, Wild_pattern, Tuple_pattern, Record_pattern, Typed_pattern, Patterns, no_pattern, pattern_and, Type_use, Array_type, Unique_type, Tuple_type, Type_terms, no_type, type_and, Tuple_of, Array_of, Index, Update, Project, Ascribe, Declared, Use, Strict, Lambda, Apply, Let, If, Loop, Terms, no_term, term_and, Counted, Over, While}
+use Rattle.fut_flat.specs.Terms.{Integer, Operation, Bound_pattern, Wild_pattern, Tuple_pattern, Record_pattern, Typed_pattern, Patterns, no_pattern, pattern_and, Type_use, Array_type, Unique_type, Tuple_type, Type_terms, no_type, type_and, Tuple_of, Record_of, Array_of, Index, Update, Project, Replace, Ascribe, Coerce, Declared, Range, Size_term, Size_use, Size_const, Size_blank, Use, Strict, Lambda, Apply, Let, If, Loop, Terms, no_term, term_and, Counted, Over, While}
 use Rattle.fut_flat.specs.Erased.{FlatTerm, FlatTurns, FlatPattern, FlatType}
 use Rattle.fut_scalar.specs.declared.scalar.ScalarType.TheVariants as sort
-use Rattle.fut_types.specs.Types.{Ty, Sub, scalar_ty}
+use Rattle.fut_types.specs.Types.{Ty, Made, Tys, Sub, scalar_ty}
 use Rattle.fut_typing.specs.Names.{Names, AreNames}
 use Rattle.fut_typing.specs.Typing.{term_types}
 use Rattle.fut_value.specs.Data.{Shape}
 use Rattle.fut_meaning.specs.Accessors.{count_of}
 use Rattle.fut_meaning.specs.Flats.{FlatValue, FlatEnv, FlatTops, flat_look, flat_names}
-use Rattle.fut_meaning.specs.Found.{Told, Sizing}
+use Rattle.fut_meaning.specs.Found.{Told, Sizing, is_number}
 use Rattle.fut_meaning.specs.Telling.{found}
 use Rattle.fut_meaning.specs.Meaning.{plain, Ever}
 use Rattle.fut_meaning.specs.Outcomes.{Val, Rel}
 use Rattle.fut_meaning.specs.Values.{Task, Evaluate, Call}
 use Rattle.sized_types.specs.Standing.{is_known}
-use Rattle.sized_types.specs.Sizes.{Free, Const, Name, Unknown, Dim, At, Variable, Size, Level, Built, Fun, Sizes, erased, has}
-use Rattle.fut_sizes.specs.Agreeing.{is_among, names_one}
+use Rattle.sized_types.specs.Sizes.{Free, Const, Name, Unknown, Dim, At, Variable, Size, Level, Built, Sizes, erased, no_size, size_and}
+use Rattle.fut_sizes.specs.Agreeing.{is_among}
 use Rattle.fut_sizes.specs.Scopes.{i64_size, names}
 use Rattle.fut_sizes.specs.Sizing.{all_part_names, bind_ids}
 use Rattle.fut_sizes.specs.Scoping.{Context}
-use Rattle.fut_sizes.specs.Suiting.{Data}
-use Rattle.fut_sizes.specs.Rules.{Outside, Inside, Away, Sized}
+use Rattle.fut_sizes.specs.Suiting.{Data, Each, Scoped}
+use Rattle.fut_sizes.specs.Rules.{Each_hole, Outside, Inside, Away, Sized}
 use Rattle.fut_scalar.specs.declared.place.BindId.{BindId}
 use Rattle.fut_flat.specs.declared.prim.Ref.{Ref}
 use Rattle.sized_meaning.specs.Worth.{Worth, free, no_frames}
@@ -63,18 +67,20 @@ pub record World : Type 0 where
   pub tight : Bool
   pub budget : ℕ
 
--- whether a value of this sized type may be a number
-abbrev pub may_be_number : Size → Bool
-may_be_number (Level d t) = false
-may_be_number (Fun k p r) = false
-may_be_number (Built head.Tuple ts) = false
-may_be_number (Built (head.Record n) ts) = false
-may_be_number t = true
-
 -- no lambda, whose name could be general
 abbrev pub No_lambda : FlatTerm → Type 0
 No_lambda (Lambda ps e) = ⊥
 No_lambda e = Unit {0}
+
+-- a size that has a name, or is a constant
+abbrev pub Named_size : Free → Type 0
+Named_size (Const c) = Unit {0}
+Named_size (Name b) = Unit {0}
+Named_size d = ⊥
+
+-- a type of which uses choose no type variable, and whose sizes have names
+abbrev pub One_type : (Variable → Bool) → Size → Type 0
+One_type is_general t = Each_hole (λ v. is_general v ≡ false) t × Each (Scoped Named_size) 0 t
 
 -- ---- terms of these forms, whose nodes have the numbers from a number on
 
@@ -85,11 +91,11 @@ module _ (Z : Sizing) where
   Name_home (Typed_pattern p t) q = Name_home p q
   Name_home p q = Unit {0}
 
-  -- where a pattern's value may be a number, its node is the home of no other name; the names of its parts stand at theirs
+  -- where a pattern's value is a number, its node is the home of no other name; the names of its parts stand at theirs
   abbrev mutual
     pub Simple : FlatPattern → ℕ → Type 0
-    Simple (Bound_pattern b) q = (c : ℕ) → Z.home c ≡ q → may_be_number (Z.size_at q) ≡ true → c ≡ b.0
-    Simple Wild_pattern q = (c : ℕ) → Z.home c ≡ q → may_be_number (Z.size_at q) ≡ true → ⊥
+    Simple (Bound_pattern b) q = (c : ℕ) → Z.home c ≡ q → is_number (Z.size_at q) ≡ true → c ≡ b.0
+    Simple Wild_pattern q = (c : ℕ) → Z.home c ≡ q → is_number (Z.size_at q) ≡ true → ⊥
     Simple (Tuple_pattern ps) q = All_parts ps (1 + q)
     Simple (Record_pattern fs ps) q = All_parts ps (1 + q)
     Simple (Typed_pattern p t) q = Simple p q
@@ -98,21 +104,30 @@ module _ (Z : Sizing) where
     All_parts no_pattern q = Unit {0}
     All_parts (pattern_and p ps) q = Name_home p q × Simple p q × All_parts ps (q + pattern_numbers p)
 
-  -- parameters, whose types name no part of one
-  abbrev pub All_simple : List ℕ → Patterns Ref BindId → ℕ → Type 0
-  All_simple parts no_pattern q = Unit {0}
-  All_simple parts (pattern_and p ps) q = Simple p q × (has (names_one parts) (Z.size_at q) ≡ false) × All_simple parts ps (q + pattern_numbers p)
+  abbrev pub All_simple : Patterns Ref BindId → ℕ → Type 0
+  All_simple no_pattern q = Unit {0}
+  All_simple (pattern_and p ps) q = Simple p q × All_simple ps (q + pattern_numbers p)
+
+-- no two of these names are one
+abbrev pub Apart_labels : Names → List Text → Type 0
+Apart_labels N [] = Unit {0}
+Apart_labels N (f ∷ fs) = (is_among (map N.label fs) (N.label f) ≡ false) × Apart_labels N fs
 
 -- a primitive of these
 abbrev pub Plain_primitive : Primitive → Type 0
 Plain_primitive prim.Map = Unit {0}
 Plain_primitive prim.Reduce = Unit {0}
+Plain_primitive prim.ReduceComm = Unit {0}
 Plain_primitive prim.Scan = Unit {0}
 Plain_primitive prim.Tabulate = Unit {0}
 Plain_primitive prim.Filter = Unit {0}
 Plain_primitive prim.Partition = Unit {0}
+Plain_primitive prim.Scatter = Unit {0}
+Plain_primitive prim.ReduceByIndex = Unit {0}
 Plain_primitive prim.Zip = Unit {0}
+Plain_primitive prim.Zip3 = Unit {0}
 Plain_primitive prim.Unzip = Unit {0}
+Plain_primitive prim.Unzip3 = Unit {0}
 Plain_primitive prim.Iota = Unit {0}
 Plain_primitive prim.Replicate = Unit {0}
 Plain_primitive prim.Indices = Unit {0}
@@ -128,6 +143,7 @@ Plain_primitive prim.Reverse = Unit {0}
 Plain_primitive prim.Rotate = Unit {0}
 Plain_primitive prim.Concat = Unit {0}
 Plain_primitive prim.Flatten = Unit {0}
+Plain_primitive prim.Unflatten = Unit {0}
 Plain_primitive prim.Transpose = Unit {0}
 Plain_primitive prim.Copy = Unit {0}
 Plain_primitive (prim.Convert to from) = Unit {0}
@@ -153,6 +169,26 @@ abbrev mutual
   pub All_written_data : Type_terms Ref BindId → Type 0
   All_written_data no_type = Unit {0}
   All_written_data (type_and e es) = Written_data e × All_written_data es
+
+-- a size that is not written, or is a constant
+abbrev pub Constant : Size_term Ref BindId → Type 0
+Constant (Size_const c) = Unit {0}
+Constant (Size_blank b) = Unit {0}
+Constant (Size_use r) = ⊥
+
+-- a written type of the form of data, whose sizes are constants
+abbrev mutual
+  pub Coerces : FlatType → Size → Type 0
+  Coerces (Type_use p args) t = Unit {0}
+  Coerces (Array_type s e) (Level d t) = Constant s × Coerces e t
+  Coerces (Unique_type e) t = Coerces e t
+  Coerces (Tuple_type es) (Built head.Tuple ts) = All_coerce es ts
+  Coerces e t = ⊥
+
+  pub All_coerce : Type_terms Ref BindId → Sizes → Type 0
+  All_coerce no_type no_size = Unit {0}
+  All_coerce (type_and e es) (size_and t ts) = Coerces e t × All_coerce es ts
+  All_coerce es ts = ⊥
 
 -- an index for each of the first levels of a type
 abbrev pub Indices : List Part → Terms Ref BindId → Size → Type 0
@@ -220,14 +256,49 @@ module _ (N : Names) (types : Sub) (W : World) where
   Updated_parts (term_and i (term_and j es)) at (Level d t) = Updated_parts (term_and j es) (at + numbers i) t
   Updated_parts (term_and i (term_and j es)) at t = ⊥
 
-  -- a record that has the field
-  abbrev pub Has_field : Text → ℕ → Type 0
-  Has_field f at = (n : ℕ) × (ts : Sizes) × (W.sizing.size_at at ≡ Built (head.Record n) ts) × (u : Size) × (part_of N f (W.sizing.size_at at) ≡ Some u)
+  -- a record that has the field, or a tuple that has the part
+  abbrev pub Has_part : Text → ℕ → Type 0
+  Has_part f at = (h : Head) × (ts : Sizes) × (W.sizing.size_at at ≡ Built h ts) × (many ts < 2 ^ 64) × (u : Size) × (part_of N f (W.sizing.size_at at) ≡ Some u)
+
+  -- a record whose fields are these
+  abbrev pub Record_parts : List Text → ℕ → Type 0
+  Record_parts fs lo = (n : ℕ) × (us : Tys) × (types lo ≡ Made (head.Record n) us) × Apart_labels N fs × ((l : ℕ) → is_among (N.shapes.fields n) l ≡ true → is_among (map N.label fs) l ≡ true)
+
+  -- a record
+  abbrev pub Is_record : ℕ → Type 0
+  Is_record at = (n : ℕ) × (ts : Sizes) × (W.sizing.size_at at ≡ Built (head.Record n) ts)
 
   -- what is declared to be data of a type, and mentions nothing that the node meets
   abbrev pub Declared_part : FlatType → ℕ → Terms Ref BindId → ℕ → Type 0
   Declared_part e lo (term_and x no_term) at = Written_data e × Data (W.sizing.size_at at) × Away N types W.sizing.size_at W.sizing.home lo (1 + lo) (W.sizing.size_at at)
   Declared_part e lo ts at = ⊥
+
+  -- a literal of this value, an i64
+  abbrev pub Literal : ℕ → FlatTerm → ℕ → Type 0
+  Literal c e at = (is_literal c e ≡ true) × (W.sizing.size_at at ≡ i64_size)
+
+  -- an i64 that a size may be: a name's, which is no size's name, or a literal below 2^63
+  abbrev pub Size_number : FlatTerm → ℕ → Type 0
+  Size_number (Use (ref.Bound b) mark k) at = (W.sizing.size_at at ≡ i64_size) × (W.sizing.is_size b.0 ≡ false)
+  Size_number (Strict (Integer c t) mark no_term) at = (W.sizing.size_at at ≡ i64_size) × (c < 2 ^ 63)
+  Size_number e at = ⊥
+
+  -- `0..<n`, `0..1..<n` and `1..2...n`, which have n elements
+  abbrev pub Counts_to : Bool → End → Terms Ref BindId → ℕ → Type 0
+  Counts_to false end.Below (term_and x (term_and z no_term)) at = Literal 0 x at × Size_number z (at + numbers x)
+  Counts_to true end.Below (term_and x (term_and y (term_and z no_term))) at = Literal 0 x at × Literal 1 y (at + numbers x) × Size_number z (at + numbers x + numbers y)
+  Counts_to true end.Through (term_and x (term_and y (term_and z no_term))) at = Literal 1 x at × Literal 2 y (at + numbers x) × Size_number z (at + numbers x + numbers y)
+  Counts_to stepped e ts at = ⊥
+
+  -- a range of whole numbers, whose size no name and no constant tells, or which counts to a number
+  abbrev pub Range_parts : Bool → End → ℕ → Terms Ref BindId → Type 0
+  Range_parts stepped e lo ts = (t : IntType) × (element_ty (types lo) ≡ scalar_ty (sort.Int t)) × (types (lo + 1) ≡ scalar_ty (sort.Int t))
+      × ((range_of (is_i64 (element_ty (types lo))) lo stepped e ts ≡ Unknown lo 0) ⊎ ((t ≡ int.I64) × Counts_to stepped e ts (lo + 1)))
+
+  -- a function's name, of one type, where the nodes of its scope begin at `at`; the body knows nothing of the let's node
+  abbrev pub Single : FlatPattern → ℕ → ℕ → Type 0
+  Single (Bound_pattern x) lo at = (W.sizing.home x.0 ≡ 1 + lo) × (is_number (W.sizing.size_at (1 + lo)) ≡ false) × One_type (λ v. true) (W.sizing.size_at (1 + lo)) × Away N types W.sizing.size_at W.sizing.home lo (1 + lo) (W.sizing.size_at at)
+  Single p lo at = ⊥
 
   -- no use of a size's name: what that is as a value is not said to be the size
   abbrev pub No_size_use : FlatTerm → Type 0
@@ -240,9 +311,13 @@ module _ (N : Names) (types : Sub) (W : World) where
   Plain_operation Array_of lo ts = Array_parts lo ts (lo + 1)
   Plain_operation (Index ps) lo ts = Indexed_parts lo ps ts (lo + 1)
   Plain_operation Update lo (term_and x es) = Data (W.sizing.size_at (lo + 1)) × Updated_parts es (lo + 1 + numbers x) (W.sizing.size_at (lo + 1))
-  Plain_operation (Project f) lo (term_and x no_term) = Has_field f (lo + 2)
+  Plain_operation (Record_of fs) lo ts = Record_parts fs lo
+  Plain_operation (Replace f) lo (term_and x (term_and y no_term)) = Is_record (lo + 1)
+  Plain_operation (Project f) lo (term_and x no_term) = Has_part f (lo + 2)
   Plain_operation (Declared e) lo ts = Declared_part e lo ts (lo + 1)
   Plain_operation (Ascribe e) lo (term_and x no_term) = Unit {0}
+  Plain_operation (Coerce e) lo (term_and x no_term) = Data (W.sizing.size_at (lo + 1)) × Coerces e (W.sizing.size_at (lo + 1))
+  Plain_operation (Range stepped e) lo (term_and x es) = Range_parts stepped e lo (term_and x es)
   Plain_operation o lo ts = Scalar_rule (W.integer_at lo) o (types lo) (term_types types ts (lo + own_numbers o))
 
   abbrev mutual
@@ -250,9 +325,9 @@ module _ (N : Names) (types : Sub) (W : World) where
     Plain_term (Use (ref.Bound b) at k) lo = W.sizing.is_size b.0 ≡ true → W.sizing.size_at lo ≡ i64_size
     Plain_term (Use (ref.Prim p) at k) lo = Plain_primitive p
     Plain_term (Strict o mark ts) lo = Plain_operation o lo ts × Plain_terms ts (lo + own_numbers o)
-    Plain_term (Lambda (pattern_and p ps) e) lo = All_simple W.sizing (all_part_names (pattern_and p ps)) (pattern_and p ps) (1 + lo) × Leaves (all_part_names (pattern_and p ps)) lo (1 + lo + (pattern_numbers p + all_pattern_numbers ps)) × Plain_term e (1 + lo + (pattern_numbers p + all_pattern_numbers ps))
+    Plain_term (Lambda (pattern_and p ps) e) lo = All_simple W.sizing (pattern_and p ps) (1 + lo) × Leaves (all_part_names (pattern_and p ps)) lo (1 + lo + (pattern_numbers p + all_pattern_numbers ps)) × Plain_term e (1 + lo + (pattern_numbers p + all_pattern_numbers ps))
     Plain_term (Apply f e) lo = Plain_term f (1 + lo) × Plain_term e (1 + lo + numbers f) × No_size_use e
-    Plain_term (Let b v e) lo = Simple W.sizing b.pattern (1 + lo) × Sizes_apart (1 + lo + pattern_numbers b.pattern + numbers v) (1 + lo + pattern_numbers b.pattern + numbers v + numbers e) b.sizes b.pattern (1 + lo) × No_lambda v
+    Plain_term (Let b v e) lo = Simple W.sizing b.pattern (1 + lo) × Sizes_apart (1 + lo + pattern_numbers b.pattern + numbers v) (1 + lo + pattern_numbers b.pattern + numbers v + numbers e) b.sizes b.pattern (1 + lo) × (No_lambda v ⊎ Single b.pattern lo (1 + lo + pattern_numbers b.pattern + numbers v))
         × Plain_term v (1 + lo + pattern_numbers b.pattern) × Plain_term e (1 + lo + pattern_numbers b.pattern + numbers v)
     Plain_term (If c a b) lo = Plain_term c (1 + lo) × Plain_term a (1 + lo + numbers c) × Plain_term b (1 + lo + numbers c + numbers a)
     Plain_term (Loop mark sizes p first turns body) lo = Simple W.sizing p (1 + lo)
@@ -295,7 +370,10 @@ module _ (N : Names) (types : Sub) (τ : Meant) (W : World) where
   pub record Env_fits (lo hi : ℕ) (m : Worth) (G : Context) (env : FlatEnv) : Type 0 where
     pub values : (b : ℕ) (t : Size) → G.sizes b ≡ Some t → (v : FlatValue) → flat_look W.tops env b ≡ Val v → Fits N τ W.sizing (calls W) m no_frames t v × (word v ≡ m (Name b))
     pub away : (b : ℕ) (t : Size) → G.sizes b ≡ Some t → Away N types W.sizing.size_at W.sizing.home lo hi t × Beyond lo hi (Name b)
-    pub none_general : (b : ℕ) → G.schemes b ≡ None
+    -- a general name's value is of its type, which is one
+    pub general : (b : ℕ) (t : Size) → G.schemes b ≡ Some t → One_type (G.general b) t × Away N types W.sizing.size_at W.sizing.home lo hi t × ((v : FlatValue) → flat_look W.tops env b ≡ Val v → Fits N τ W.sizing (calls W) m no_frames t v)
+    -- and where that is a number, the name is worth it
+    pub general_worth : (b : ℕ) (t : Size) → G.schemes b ≡ Some t → is_number t ≡ true → Beyond lo hi (Name b) × ((v : FlatValue) → flat_look W.tops env b ≡ Val v → word v ≡ m (Name b))
     -- what these nodes bind has no value yet
     pub fresh : (b : ℕ) (v : FlatValue) → Inside N types W.sizing.size_at W.sizing.home lo hi (Name b) → flat_look W.tops env b ≡ Val v → ⊥
     -- what is found under the names is right, and made before

@@ -11,21 +11,22 @@ pub fn suiting_values_fit()
 {}
 
 /// Each value that a sized term may give is of its sized type, for terms of names and names of sizes, scalars, array literals,
-/// elements, slices and updates of arrays, fields of records, tuples, functions and what they declare, applications, lets,
-/// branches, loops and the primitives of `Plain_primitive`; patterns may take the parts of tuples and records, and name sizes.
+/// ranges, elements, slices and updates of arrays, records, tuples, their parts and changes of fields, coercions to constants,
+/// functions and what they declare, applications, lets, also of functions of one type, branches, loops and the primitives of
+/// `Plain_primitive`; patterns may take the parts of tuples and records, and name sizes.
 #[tactic(auto, using(crate::proofs::Law::values_have_their_sizes))]
 pub fn values_have_their_sizes()
     ensures { ValuesHaveTheirSizes }
 {}
 
-/// A size that the meaning finds in the shape of data of a sized type is what the size is worth there, and the shape that it
-/// finds for a type variable is what that stands for.
+/// At the place of a size in a sized type the shape of a value says what the size is worth there, and at that of a type variable
+/// what it stands for.
 #[tactic(auto, using(crate::proofs::Finding::found_is_right))]
 pub fn found_is_right()
     ensures { FoundIsRight }
 {}
 
-/// Each size and each type variable that stands in the sized type of data is found in its shape.
+/// Each size and each type variable that stands in the sized type of data has a place there.
 #[tactic(auto, using(crate::proofs::Finding::standing_is_found))]
 pub fn standing_is_found()
     ensures { StandingIsFound }

@@ -4,14 +4,14 @@
 //! a sized type: data of that type, and functions that take values of what they take to values of what they give and tell
 //! their results' shapes right. Two laws on them: where one sized type suits another, a value of the one is of the other; and
 //! each value that a sized term may give is of its sized type (`specs/Law.antt`), for terms of names and names of sizes,
-//! scalars, array literals, elements, slices and updates of arrays, fields of records, tuples, functions and what they
-//! declare, applications, lets, branches, loops and most primitives, where patterns may take the parts of tuples and records
-//! and name sizes. Of other terms nothing is claimed there: `map2` to `map5`, `reduce_comm`, `scatter`, `reduce_by_index`,
-//! `zip3`, `unzip3`, `unflatten`, slices whose size a name or a constant is, ranges, general names, records and
-//! changes of them, parts of tuples by their names, `:>`, and a name of a size as the argument of a function.
+//! scalars, array literals, ranges, elements, slices and updates of arrays, records, tuples, their parts and changes of
+//! fields, coercions to constants, functions and what they declare, applications, lets, also of functions of one type,
+//! branches, loops and all primitives but `map2` to `map5`, where patterns may take the parts of tuples and records and name
+//! sizes. Of other terms nothing is claimed there: `map2` to `map5`, ranges and slices whose size a name or a constant is,
+//! coercions to sizes that are names, general names of several types, and a name of a size as the argument of a function.
 //!
-//! The other laws are on what the meaning finds of sizes that no value shows. `specs/Finding.antt`: in the shape of data of a
-//! sized type. `specs/Entered.antt`: under names, where what was entered is right; so an array literal without elements has
+//! The other laws are on what the meaning finds of sizes that no value shows. `specs/Finding.antt`: at their places in a sized
+//! type. `specs/Entered.antt`: under names, where what was entered is right; so an array literal without elements has
 //! rows of its type, and what `:>` lets pass has the sizes of its type.
 #![tactic(auto)]
 

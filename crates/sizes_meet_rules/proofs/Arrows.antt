@@ -3,7 +3,6 @@ use Rattle.std.proofs.Common.{◌≡◌, ◌⊎◌, ℕ, suc, ◌+◌, ◌-◌, 
 use Rattle.std.specs.Prelude.{nat_lt}
 use Rattle.std.proofs.lemmas.Bool.{ne_eqb}
 use Rattle.fut_flat.specs.Numbers.{pattern_numbers}
-use Rattle.fut_flat.specs.Terms.{Bound_pattern, Wild_pattern, Tuple_pattern, Record_pattern, Typed_pattern}
 use Rattle.fut_flat.specs.Erased.{FlatPattern}
 use Rattle.fut_types.specs.declared.Kind.{Kind}
 use Rattle.fut_types.specs.Types.{Sub, Kinds}
@@ -15,9 +14,11 @@ use Rattle.fut_sizes.specs.Rules.{Outside, Away, Pattern_takes, Named_value, Bin
 use Rattle.fut_sizes.specs.Suiting.{Each, Each_all, Scoped, Of_positions}
 use Rattle.sizes_meet_rules.specs.Known.{Is_const, Elsewhere}
 use Rattle.sizes_meet_rules.specs.Plain.{Plain_pattern}
-use Rattle.sizes_meet_rules.proofs.Listing.{nth, Some_at, found_at, among_found, once_found, all_nth, sizes_once, sizes_are, sizes_listed}
+use Rattle.sizes_meet_rules.proofs.Listing.{nth, Some_at, found_at, among_found, among_nth, once_found, all_nth, sizes_once, sizes_are, sizes_listed}
 use Rattle.sizes_meet_rules.proofs.Meeting.{In_nodes, each_scoped, inside_wider, order}
-use Rattle.sizes_meet_rules.proofs.Replacing.{free_same, each_as, each_replaced, put_back, not_renamed}
+use Rattle.sizes_meet_rules.proofs.Naming.{value_home}
+use Rattle.sizes_meet_rules.proofs.Taking.{pattern_some}
+use Rattle.sizes_meet_rules.proofs.Replacing.{free_same, each_as, each_both, each_replaced, put_back}
 
 -- what stands in a sized type has what all of its dims have
 module _ (C : Free → Type 0) where
@@ -82,19 +83,20 @@ module _ (position : Free → Option ℕ) where
 
 -- ---- one parameter
 
-abbrev pub value_of : FlatPattern → ℕ → Free
-value_of (Bound_pattern x) q = Name x.0
-value_of p q = Unknown q 0
+-- the argument's value: its name, if it has one
+abbrev pub value_of : Option ℕ → ℕ → Free
+value_of (Some b) q = Name b
+value_of None q = Unknown q 0
 
-abbrev pub value_place : FlatPattern → ℕ → ℕ → Free → Option ℕ
-value_place (Bound_pattern x) q k (Name c) = cond (nat_eq x.0 c) (Some k) None
-value_place (Bound_pattern x) q k d = None
-value_place p q k (Unknown n i) = cond (nat_eq n q) (Some k) None
-value_place p q k d = None
+abbrev pub value_place : Option ℕ → ℕ → ℕ → Free → Option ℕ
+value_place (Some b) q k (Name c) = cond (nat_eq b c) (Some k) None
+value_place (Some b) q k d = None
+value_place None q k (Unknown n i) = cond (nat_eq n q) (Some k) None
+value_place None q k d = None
 
-abbrev pub Is_value : FlatPattern → Free → Type 0
-Is_value (Bound_pattern x) d = d ≡ Name x.0
-Is_value p d = ⊥
+abbrev pub Is_value : Option ℕ → Free → Type 0
+Is_value (Some b) d = d ≡ Name b
+Is_value None d = ⊥
 
 none_some : {A X : Type 0} {a : A} → None ≡ Some a → X
 none_some {a = a} e = absurd (let z : None ≡ Some a = e in cc)
@@ -102,15 +104,8 @@ none_some {a = a} e = absurd (let z : None ≡ Some a = e in cc)
 some_same : {A : Type 0} {a b : A} → Some a ≡ Some b → a ≡ b
 some_same e = cc
 
-pub pattern_some : (p : FlatPattern) → 1 ≤ pattern_numbers p
-pattern_some (Bound_pattern b) = omega arith
-pattern_some Wild_pattern = omega arith
-pattern_some (Tuple_pattern ps) = omega arith
-pattern_some (Record_pattern fs ps) = omega arith
-pattern_some (Typed_pattern p t) = pattern_some p
-
 module _ (N : Names) (types : Sub) (home : ℕ → ℕ) (K : Kinds) (places : Kind) (lo at hi q : ℕ) (p : FlatPattern) (plain : Plain_pattern types home K places p q) (In : Free → Type 0) (E : Elsewhere N types home q hi In) (l2 : q < at) (l3 : at ≤ hi)
-    (own : Size) (own_is : Each (Scoped (λ x. is_own [] q x ≡ true)) 0 own) (own_stands : Each (Scoped (λ x. stands own x ≡ true)) 0 own) where
+    (own : Size) (own_is : Each (Scoped (λ x. (is_own [] q x ≡ true) ⊎ (In x ⊎ Is_const x))) 0 own) (own_stands : Each (Scoped (λ x. stands own x ≡ true)) 0 own) where
   abbrev pub taking : Taking
   taking = record { pattern = p; node = q; size = own }
 
@@ -121,27 +116,31 @@ module _ (N : Names) (types : Sub) (home : ℕ → ℕ) (K : Kinds) (places : Ki
   frame met d = frame_of chosen taking met d
 
   abbrev pub position : Free → Option ℕ
-  position d = or_position (position_from 0 chosen d) (value_place p q (length chosen) d)
+  position d = or_position (position_from 0 chosen d) (value_place (value_name p) q (length chosen) d)
 
   abbrev pub inside : List Free → ℕ → Free
-  inside met i = cond (nat_lt i (length chosen)) (nth chosen i) (cond (nat_eq i (length chosen)) (value_of p q) (nth met (i - suc (length chosen))))
+  inside met i = cond (nat_lt i (length chosen)) (nth chosen i) (cond (nat_eq i (length chosen)) (value_of (value_name p) q) (nth met (i - suc (length chosen))))
 
   -- which sizes may stand in what the function gives
   abbrev pub May_stand : List Free → Free → Type 0
-  May_stand met x = In x ⊎ ((stands own x ≡ true) ⊎ (Is_value p x ⊎ (Is_const x ⊎ (stands_among met x ≡ true))))
+  May_stand met x = In x ⊎ ((stands own x ≡ true) ⊎ (Is_value (value_name p) x ⊎ (Is_const x ⊎ (stands_among met x ≡ true))))
 
   abbrev pub Or_const : Free → Type 0
   Or_const x = In x ⊎ Is_const x
 
-  own_free : (j : ℕ) (d : Dim) → Scoped (λ x. is_own [] q x ≡ true) j d → (x : Free) → d ≡ At x → is_own [] q x ≡ true
-  own_free j (At y) h x e = ap (is_own [] q) (sym (let z : y ≡ x = cc in z)) ∙ h
+  -- of the parameter's own sizes, or written
+  abbrev pub Own_or_known : Free → Type 0
+  Own_or_known x = (is_own [] q x ≡ true) ⊎ Or_const x
+
+  own_free : (j : ℕ) (d : Dim) → Scoped Own_or_known j d → (x : Free) → d ≡ At x → Own_or_known x
+  own_free j (At y) h x e = subst Own_or_known (let z : y ≡ x = cc in z) h
   own_free j (Bound k i) h x e = absurd (let z : Bound k i ≡ At x = e in cc)
 
-  pub standing_own : (x : Free) → stands own x ≡ true → is_own [] q x ≡ true
-  standing_own x e = standing_has (λ y. is_own [] q y ≡ true) own 0 x (each_as (Scoped (λ x. is_own [] q x ≡ true)) (λ j d. (y : Free) → d ≡ At y → is_own [] q y ≡ true) own_free own 0 own_is) e
+  pub standing_own : (x : Free) → stands own x ≡ true → Own_or_known x
+  standing_own x e = standing_has Own_or_known own 0 x (each_as (Scoped Own_or_known) (λ j d. (y : Free) → d ≡ At y → Own_or_known y) own_free own 0 own_is) e
 
-  pub standing_chosen : (x : Free) → stands own x ≡ true → stands_among chosen x ≡ true
-  standing_chosen x e = standing_has (λ y. is_own [] q y ≡ true → stands_among chosen y ≡ true) own 0 x (sizes_listed (is_own [] q) own) e (standing_own x e)
+  pub standing_chosen : (x : Free) → stands own x ≡ true → is_own [] q x ≡ true → stands_among chosen x ≡ true
+  standing_chosen x e o = standing_has (λ y. is_own [] q y ≡ true → stands_among chosen y ≡ true) own 0 x (sizes_listed (is_own [] q) own) e o
 
   pub owned_here : (x : Free) → is_own [] q x ≡ true → In_nodes N types home q (1 + q) x
   owned_here (Own n i) e = let z : n ≡ q = eqb-true n q e in (omega (arith, z), omega (arith, z))
@@ -156,72 +155,73 @@ module _ (N : Names) (types : Sub) (home : ℕ → ℕ) (K : Kinds) (places : Ki
       by_place : Some_at chosen 0 x i → is_own [] q x ≡ true
       by_place (j, a, b, c) = ap (is_own [] q) (sym c) ∙ all_nth (is_own [] q) chosen (sizes_are (is_own [] q) own) j b
 
-  value_here : (r : FlatPattern) → Plain_pattern types home K places r q → (x : Free) (k i : ℕ) → value_place r q k x ≡ Some i → In_nodes N types home q (1 + q) x
-  value_here (Bound_pattern y) h (Name c) k i e = by_name (nat_eq y.0 c) refl e
+  -- its name is at home there
+  abbrev Named_home : Option ℕ → Type 0
+  Named_home r = (b : ℕ) → r ≡ Some b → home b ≡ q
+
+  value_here : (r : Option ℕ) → Named_home r → (x : Free) (k i : ℕ) → value_place r q k x ≡ Some i → In_nodes N types home q (1 + q) x
+  value_here (Some y) h (Name c) k i e = by_name (nat_eq y c) refl e
     where
-      by_name : (b : Bool) → nat_eq y.0 c ≡ b → cond b (Some k) None ≡ Some i → (q ≤ home c) × (home c < 1 + q)
-      by_name true f e = let z : home c ≡ q = ap home (sym (eqb-true y.0 c f)) ∙ h in (omega (arith, z), omega (arith, z))
+      by_name : (b : Bool) → nat_eq y c ≡ b → cond b (Some k) None ≡ Some i → (q ≤ home c) × (home c < 1 + q)
+      by_name true f e = let z : home c ≡ q = ap home (sym (eqb-true y c f)) ∙ h y refl in (omega (arith, z), omega (arith, z))
       by_name false f e = none_some e
-  value_here (Bound_pattern y) h (Const c) k i e = none_some e
-  value_here (Bound_pattern y) h (Own n m) k i e = none_some e
-  value_here (Bound_pattern y) h (Unknown n m) k i e = none_some e
-  value_here (Bound_pattern y) h (Slot m) k i e = none_some e
-  value_here Wild_pattern h (Unknown n m) k i e = by_node (nat_eq n q) refl e
+  value_here (Some y) h (Const c) k i e = none_some e
+  value_here (Some y) h (Own n m) k i e = none_some e
+  value_here (Some y) h (Unknown n m) k i e = none_some e
+  value_here (Some y) h (Slot m) k i e = none_some e
+  value_here None h (Unknown n m) k i e = by_node (nat_eq n q) refl e
     where
       by_node : (b : Bool) → nat_eq n q ≡ b → cond b (Some k) None ≡ Some i → (q ≤ n) × (n < 1 + q)
       by_node true f e = let z : n ≡ q = eqb-true n q f in (omega (arith, z), omega (arith, z))
       by_node false f e = none_some e
-  value_here Wild_pattern h (Const c) k i e = none_some e
-  value_here Wild_pattern h (Own n m) k i e = none_some e
-  value_here Wild_pattern h (Name n) k i e = none_some e
-  value_here Wild_pattern h (Slot m) k i e = none_some e
-  value_here (Tuple_pattern ps) h x k i e = absurd h
-  value_here (Record_pattern fs ps) h x k i e = absurd h
-  value_here (Typed_pattern r t) h x k i e = absurd h
+  value_here None h (Const c) k i e = none_some e
+  value_here None h (Own n m) k i e = none_some e
+  value_here None h (Name n) k i e = none_some e
+  value_here None h (Slot m) k i e = none_some e
 
   -- what has a position is bound at the parameter
   pub position_here : (x : Free) (i : ℕ) → position x ≡ Some i → In_nodes N types home q (1 + q) x
   position_here x i e = by_chosen (position_from 0 chosen x) refl e
     where
-      by_chosen : (o : Option ℕ) → position_from 0 chosen x ≡ o → or_position o (value_place p q (length chosen) x) ≡ Some i → In_nodes N types home q (1 + q) x
+      by_chosen : (o : Option ℕ) → position_from 0 chosen x ≡ o → or_position o (value_place (value_name p) q (length chosen) x) ≡ Some i → In_nodes N types home q (1 + q) x
       by_chosen (Some j) f e = owned_here x (chosen_here x j f)
-      by_chosen None f e = value_here p plain x (length chosen) i e
+      by_chosen None f e = value_here (value_name p) (value_home types home K places p q plain) x (length chosen) i e
+
+  const_outside : (a b : ℕ) (x : Free) → Is_const x → In_nodes N types home a b x → ⊥
+  const_outside a b (Const c) i h = h
+  const_outside a b (Name c) i h = i
+  const_outside a b (Own c m) i h = i
+  const_outside a b (Unknown c m) i h = i
+  const_outside a b (Slot c) i h = i
+
+  pub known_nowhere : (x : Free) → Or_const x → In_nodes N types home q (1 + q) x → ⊥
+  known_nowhere x (inl i) h = E.outside x i (inside_wider N types home q (1 + q) q hi (omega arith) (omega (arith, l2, l3)) x h)
+  known_nowhere x (inr i) h = const_outside q (1 + q) x i h
 
   pub known_no_position : (x : Free) → Or_const x → position x ≡ None
   known_no_position x o = by_position (position x) refl
     where
-      nowhere : Or_const x → In_nodes N types home q (1 + q) x → ⊥
-      nowhere (inl i) h = E.outside x i (inside_wider N types home q (1 + q) q hi (omega arith) (omega (arith, l2, l3)) x h)
-      nowhere (inr i) h = constant x i h
-        where
-          constant : (x : Free) → Is_const x → In_nodes N types home q (1 + q) x → ⊥
-          constant (Const c) i h = h
-          constant (Name c) i h = i
-          constant (Own c m) i h = i
-          constant (Unknown c m) i h = i
-          constant (Slot c) i h = i
-
       by_position : (r : Option ℕ) → position x ≡ r → position x ≡ None
       by_position None e = e
-      by_position (Some m) e = absurd (nowhere o (position_here x m e))
+      by_position (Some m) e = absurd (known_nowhere x o (position_here x m e))
 
-  module _ (met : List Free) (mets : (x : Free) → stands_among met x ≡ true → (n : ℕ) × ((i : ℕ) × (x ≡ Unknown n i))) where
+  module _ (met : List Free) (mets : (x : Free) → stands_among met x ≡ true → (n : ℕ) × ((i : ℕ) × (x ≡ Unknown n i) × (In (Unknown n i) → ⊥))) where
     -- the value of the argument, where no chosen size is meant
-    value_known : (r : FlatPattern) → Plain_pattern types home K places r q → (x : Free) → (In x ⊎ ((stands own x ≡ true) ⊎ (Is_value r x ⊎ (Is_const x ⊎ (stands_among met x ≡ true))))) → position_from 0 chosen x ≡ None → (k i : ℕ) → value_position k q (value_name r) x ≡ Some i → (i ≡ k) × (value_of r q ≡ x)
-    value_known (Bound_pattern y) h (Name c) o f k i e = by_name (nat_eq y.0 c) refl e
+    value_known : (r : Option ℕ) (x : Free) → (In x ⊎ ((stands own x ≡ true) ⊎ (Is_value r x ⊎ (Is_const x ⊎ (stands_among met x ≡ true))))) → position_from 0 chosen x ≡ None → (k i : ℕ) → value_position k q r x ≡ Some i → (i ≡ k) × (value_of r q ≡ x)
+    value_known (Some y) (Name c) o f k i e = by_name (nat_eq y c) refl e
       where
-        by_name : (b : Bool) → nat_eq y.0 c ≡ b → cond b (Some k) None ≡ Some i → (i ≡ k) × (Name y.0 ≡ Name c)
-        by_name true g e = (sym (some_same e), ap Name (eqb-true y.0 c g))
+        by_name : (b : Bool) → nat_eq y c ≡ b → cond b (Some k) None ≡ Some i → (i ≡ k) × (Name y ≡ Name c)
+        by_name true g e = (sym (some_same e), ap Name (eqb-true y c g))
         by_name false g e = none_some e
-    value_known (Bound_pattern y) h (Const c) o f k i e = none_some e
-    value_known (Bound_pattern y) h (Own n m) o f k i e = none_some e
-    value_known (Bound_pattern y) h (Unknown n m) o f k i e = none_some e
-    value_known (Bound_pattern y) h (Slot m) o f k i e = none_some e
-    value_known Wild_pattern h (Own n m) o f k i e = by_node (nat_eq n q) refl e
+    value_known (Some y) (Const c) o f k i e = none_some e
+    value_known (Some y) (Own n m) o f k i e = none_some e
+    value_known (Some y) (Unknown n m) o f k i e = none_some e
+    value_known (Some y) (Slot m) o f k i e = none_some e
+    value_known None (Own n m) o f k i e = by_node (nat_eq n q) refl e
       where
         there : In (Own n m) ⊎ ((stands own (Own n m) ≡ true) ⊎ (⊥ ⊎ (⊥ ⊎ (stands_among met (Own n m) ≡ true)))) → n ≡ q → ⊥
         there (inl i) z = E.outside (Own n m) i (omega (arith, z), omega (arith, z, l2, l3))
-        there (inr (inl s)) z = let w = among_found chosen 0 (Own n m) (standing_chosen (Own n m) s) in none_some (sym f ∙ w.1)
+        there (inr (inl s)) z = let w = among_found chosen 0 (Own n m) (standing_chosen (Own n m) s (eq-eqb n q z)) in none_some (sym f ∙ w.1)
         there (inr (inr (inl s))) z = s
         there (inr (inr (inr (inl s)))) z = s
         there (inr (inr (inr (inr s)))) z = let w = mets (Own n m) s in let y : Own n m ≡ Unknown w.0 w.1.0 = w.1.1 in cc
@@ -229,16 +229,13 @@ module _ (N : Names) (types : Sub) (home : ℕ → ℕ) (K : Kinds) (places : Ki
         by_node : (b : Bool) → nat_eq n q ≡ b → cond b (Some k) None ≡ Some i → (i ≡ k) × (Unknown q 0 ≡ Own n m)
         by_node true g e = absurd (there o (eqb-true n q g))
         by_node false g e = none_some e
-    value_known Wild_pattern h (Const c) o f k i e = none_some e
-    value_known Wild_pattern h (Name c) o f k i e = none_some e
-    value_known Wild_pattern h (Unknown n m) o f k i e = none_some e
-    value_known Wild_pattern h (Slot m) o f k i e = none_some e
-    value_known (Tuple_pattern ps) h x o f k i e = absurd h
-    value_known (Record_pattern fs ps) h x o f k i e = absurd h
-    value_known (Typed_pattern r t) h x o f k i e = absurd h
+    value_known None (Const c) o f k i e = none_some e
+    value_known None (Name c) o f k i e = none_some e
+    value_known None (Unknown n m) o f k i e = none_some e
+    value_known None (Slot m) o f k i e = none_some e
 
     at_chosen : (j : ℕ) → j < length chosen → inside met j ≡ nth chosen j
-    at_chosen j b = ap (λ c. cond c (nth chosen j) (cond (nat_eq j (length chosen)) (value_of p q) (nth met (j - suc (length chosen))))) (lt-ltb j (length chosen) b)
+    at_chosen j b = ap (λ c. cond c (nth chosen j) (cond (nat_eq j (length chosen)) (value_of (value_name p) q) (nth met (j - suc (length chosen))))) (lt-ltb j (length chosen) b)
 
     not_less : (j k : ℕ) → k ≤ j → nat_lt j k ≡ false
     not_less j k b = by_less (nat_lt j k) refl
@@ -247,13 +244,13 @@ module _ (N : Names) (types : Sub) (home : ℕ → ℕ) (K : Kinds) (places : Ki
         by_less true e = absurd (let z : j < k = ltb-true j k e in omega (arith, z, b))
         by_less false e = e
 
-    pub at_value : inside met (length chosen) ≡ value_of p q
-    at_value = ap (λ c. cond c (nth chosen (length chosen)) (cond (nat_eq (length chosen) (length chosen)) (value_of p q) (nth met (length chosen - suc (length chosen))))) (not_less (length chosen) (length chosen) (omega arith))
-        ∙ ap (λ c. cond c (value_of p q) (nth met (length chosen - suc (length chosen)))) (eq-eqb (length chosen) (length chosen) refl)
+    pub at_value : inside met (length chosen) ≡ value_of (value_name p) q
+    at_value = ap (λ c. cond c (nth chosen (length chosen)) (cond (nat_eq (length chosen) (length chosen)) (value_of (value_name p) q) (nth met (length chosen - suc (length chosen))))) (not_less (length chosen) (length chosen) (omega arith))
+        ∙ ap (λ c. cond c (value_of (value_name p) q) (nth met (length chosen - suc (length chosen)))) (eq-eqb (length chosen) (length chosen) refl)
 
     at_met : (j : ℕ) → inside met (suc (length chosen) + j) ≡ nth met j
-    at_met j = ap (λ c. cond c (nth chosen i) (cond (nat_eq i (length chosen)) (value_of p q) (nth met (i - suc (length chosen))))) (not_less i (length chosen) (omega arith))
-        ∙ ap (λ c. cond c (value_of p q) (nth met (i - suc (length chosen)))) (ne_eqb i (length chosen) (λ z. omega (arith, z))) ∙ ap (nth met) (let z : i - suc (length chosen) ≡ j = omega arith in z)
+    at_met j = ap (λ c. cond c (nth chosen i) (cond (nat_eq i (length chosen)) (value_of (value_name p) q) (nth met (i - suc (length chosen))))) (not_less i (length chosen) (omega arith))
+        ∙ ap (λ c. cond c (value_of (value_name p) q) (nth met (i - suc (length chosen)))) (ne_eqb i (length chosen) (λ z. omega (arith, z))) ∙ ap (nth met) (let z : i - suc (length chosen) ≡ j = omega arith in z)
       where
         i : ℕ
         i = suc (length chosen) + j
@@ -268,7 +265,7 @@ module _ (N : Names) (types : Sub) (home : ℕ → ℕ) (K : Kinds) (places : Ki
         met_back (j, a, b, c) = ap (inside met) a ∙ at_met j ∙ c
 
         by_value : (r : Option ℕ) → value_position (length chosen) q (value_name p) x ≡ r → position_from 0 chosen x ≡ None → or_position r (position_from (suc (length chosen)) met x) ≡ Some m → inside met m ≡ x
-        by_value (Some j) f g e = let k = value_known p plain x o g (length chosen) j f in ap (inside met) (sym (some_same e) ∙ k.0) ∙ at_value ∙ k.1
+        by_value (Some j) f g e = let k = value_known (value_name p) x o g (length chosen) j f in ap (inside met) (sym (some_same e) ∙ k.0) ∙ at_value ∙ k.1
         by_value None f g e = met_back (found_at met (suc (length chosen)) x m e)
 
         by_chosen : (r : Option ℕ) → position_from 0 chosen x ≡ r → or_position r (or_position (value_position (length chosen) q (value_name p) x) (position_from (suc (length chosen)) met x)) ≡ Some m → inside met m ≡ x
@@ -277,16 +274,17 @@ module _ (N : Names) (types : Sub) (home : ℕ → ℕ) (K : Kinds) (places : Ki
 
     pub frame_none : (x : Free) → May_stand met x → frame met x ≡ None → Or_const x
     frame_none x (inl i) e = inl i
-    frame_none x (inr (inl s)) e = let w = among_found chosen 0 x (standing_chosen x s) in absurd (let z : Some w.0 ≡ None = ap (λ r. or_position r (or_position (value_position (length chosen) q (value_name p) x) (position_from (suc (length chosen)) met x))) (sym w.1) ∙ e in cc)
-    frame_none x (inr (inr (inl s))) e = absurd (by_pattern p s (position_from 0 chosen x) e)
+    frame_none x (inr (inl s)) e = by_own (standing_own x s)
       where
-        by_pattern : (r : FlatPattern) → Is_value r x → (c : Option ℕ) → or_position c (or_position (value_position (length chosen) q (value_name r) x) (position_from (suc (length chosen)) met x)) ≡ None → ⊥
-        by_pattern r s (Some j) e = let z : Some j ≡ None = e in cc
-        by_pattern (Bound_pattern y) s None e = let z : Some (length chosen) ≡ None = ap (λ b. or_position (cond b (Some (length chosen)) None) (position_from (suc (length chosen)) met x)) (sym (eq-eqb y.0 y.0 refl)) ∙ ap (λ w. or_position (value_position (length chosen) q (Some y.0) w) (position_from (suc (length chosen)) met x)) (sym s) ∙ e in cc
-        by_pattern Wild_pattern s None e = s
-        by_pattern (Tuple_pattern ps) s None e = s
-        by_pattern (Record_pattern fs ps) s None e = s
-        by_pattern (Typed_pattern r t) s None e = s
+        by_own : Own_or_known x → Or_const x
+        by_own (inl o) = let w = among_found chosen 0 x (standing_chosen x s o) in absurd (let z : Some w.0 ≡ None = ap (λ r. or_position r (or_position (value_position (length chosen) q (value_name p) x) (position_from (suc (length chosen)) met x))) (sym w.1) ∙ e in cc)
+        by_own (inr o) = o
+    frame_none x (inr (inr (inl s))) e = absurd (by_value (value_name p) s (position_from 0 chosen x) e)
+      where
+        by_value : (r : Option ℕ) → Is_value r x → (c : Option ℕ) → or_position c (or_position (value_position (length chosen) q r x) (position_from (suc (length chosen)) met x)) ≡ None → ⊥
+        by_value r s (Some j) e = let z : Some j ≡ None = e in cc
+        by_value (Some y) s None e = let z : Some (length chosen) ≡ None = ap (λ b. or_position (cond b (Some (length chosen)) None) (position_from (suc (length chosen)) met x)) (sym (eq-eqb y y refl)) ∙ ap (λ w. or_position (value_position (length chosen) q (Some y) w) (position_from (suc (length chosen)) met x)) (sym s) ∙ e in cc
+        by_value None s None e = s
     frame_none x (inr (inr (inr (inl i)))) e = inr i
     frame_none x (inr (inr (inr (inr s)))) e = absurd (by_chosen (position_from 0 chosen x) (value_position (length chosen) q (value_name p) x) e)
       where
@@ -303,21 +301,74 @@ module _ (N : Names) (types : Sub) (home : ℕ → ℕ) (K : Kinds) (places : Ki
     pub own_may : Each (Scoped (May_stand met)) 0 own
     own_may = each_scoped (λ x. stands own x ≡ true) (May_stand met) (λ x h. inr (inl h)) own 0 own_stands
 
-    pub arrow_scoped : (t : Size) → Each (Scoped (May_stand met)) 0 t → Each (Scoped Or_const) 0 (arrow chosen taking met t)
+    -- and what all sizes have beside
+    pub arrow_scoped : (X : Free → Type 0) → Each (Scoped X) 0 own → (t : Size) → Each (Scoped (λ x. May_stand met x × X x)) 0 t → Each (Scoped (λ x. Or_const x × X x)) 0 (arrow chosen taking met t)
     unfolding Each
-    arrow_scoped t h = (bound_scoped (frame met) Or_const own (each_scoped (May_stand met) (λ x. frame met x ≡ None → Or_const x) frame_none own 0 own_may), bound_scoped (frame met) Or_const t (each_scoped (May_stand met) (λ x. frame met x ≡ None → Or_const x) frame_none t 0 h))
+    arrow_scoped X o t h = (
+      bound_scoped (frame met) (λ x. Or_const x × X x) own (each_as (λ j d. Scoped (May_stand met) j d × Scoped X j d) (Scoped (λ x. frame met x ≡ None → Or_const x × X x)) both own 0 (each_both (Scoped (May_stand met)) (Scoped X) own 0 own_may o)),
+      bound_scoped (frame met) (λ x. Or_const x × X x) t (each_scoped (λ x. May_stand met x × X x) (λ x. frame met x ≡ None → Or_const x × X x) (λ x w e. (frame_none x w.0 e, w.1)) t 0 h),
+    )
+      where
+        both : (j : ℕ) (d : Dim) → Scoped (May_stand met) j d × Scoped X j d → Scoped (λ x. frame met x ≡ None → Or_const x × X x) j d
+        both j (At x) w = λ e. (frame_none x w.0 e, w.1)
+        both j (Bound k i) w = w.0
+
+    -- what is known has no position
+    known_not_chosen : (x : Free) → Or_const x → position_from 0 chosen x ≡ None
+    known_not_chosen x o = by_place (position_from 0 chosen x) refl
+      where
+        by_place : (r : Option ℕ) → position_from 0 chosen x ≡ r → position_from 0 chosen x ≡ None
+        by_place None f = f
+        by_place (Some i) f = absurd (known_nowhere x o (owned_here x (chosen_here x i f)))
+
+    known_not_value : (r : Option ℕ) → Named_home r → (x : Free) → Or_const x → (k i : ℕ) → value_position k q r x ≡ Some i → ⊥
+    known_not_value (Some y) h (Name c) o k i e = by_name (nat_eq y c) refl e
+      where
+        by_name : (b : Bool) → nat_eq y c ≡ b → cond b (Some k) None ≡ Some i → ⊥
+        by_name true g e = known_nowhere (Name c) o (let z : home c ≡ q = ap home (sym (eqb-true y c g)) ∙ h y refl in (omega (arith, z), omega (arith, z)))
+        by_name false g e = none_some e
+    known_not_value (Some y) h (Const c) o k i e = none_some e
+    known_not_value (Some y) h (Own n m) o k i e = none_some e
+    known_not_value (Some y) h (Unknown n m) o k i e = none_some e
+    known_not_value (Some y) h (Slot m) o k i e = none_some e
+    known_not_value None h (Own n m) o k i e = by_node (nat_eq n q) refl e
+      where
+        by_node : (b : Bool) → nat_eq n q ≡ b → cond b (Some k) None ≡ Some i → ⊥
+        by_node true g e = known_nowhere (Own n m) o (let z : n ≡ q = eqb-true n q g in (omega (arith, z), omega (arith, z)))
+        by_node false g e = none_some e
+    known_not_value None h (Const c) o k i e = none_some e
+    known_not_value None h (Name c) o k i e = none_some e
+    known_not_value None h (Unknown n m) o k i e = none_some e
+    known_not_value None h (Slot m) o k i e = none_some e
+
+    known_not_met : (x : Free) → Or_const x → stands_among met x ≡ true → ⊥
+    known_not_met x (inl i) s = let w = mets x s in w.1.2 (subst In w.1.1 i)
+    known_not_met x (inr c) s = let w = mets x s in subst Is_const w.1.1 c
+
+    met_found : (k : ℕ) (x : Free) (m : ℕ) → position_from k met x ≡ Some m → stands_among met x ≡ true
+    met_found k x m e = by_place (found_at met k x m e)
+      where
+        by_place : Some_at met k x m → stands_among met x ≡ true
+        by_place (j, a, b, c) = subst (λ y. stands_among met y ≡ true) c (among_nth met j b)
+
+    known_no_frame : (x : Free) → Or_const x → (m : ℕ) → frame met x ≡ Some m → ⊥
+    known_no_frame x o m e = by_value (value_position (length chosen) q (value_name p) x) refl (ap (λ r. or_position r (or_position (value_position (length chosen) q (value_name p) x) (position_from (suc (length chosen)) met x))) (sym (known_not_chosen x o)) ∙ e)
+      where
+        by_value : (r : Option ℕ) → value_position (length chosen) q (value_name p) x ≡ r → or_position (value_position (length chosen) q (value_name p) x) (position_from (suc (length chosen)) met x) ≡ Some m → ⊥
+        by_value (Some j) f g = known_not_value (value_name p) (value_home types home K places p q plain) x o (length chosen) j f
+        by_value None f g = known_not_met x o (met_found (suc (length chosen)) x m (ap (λ r. or_position r (position_from (suc (length chosen)) met x)) (sym f) ∙ g))
 
     pub frame_chosen : (x : Free) → stands own x ≡ true → (m : ℕ) → frame met x ≡ Some m → m < length chosen
-    frame_chosen x s m e = by_place (found_at chosen 0 x w.0 w.1)
+    frame_chosen x s m e = by_own (standing_own x s)
       where
-        w : (i : ℕ) × (position_from 0 chosen x ≡ Some i)
-        w = among_found chosen 0 x (standing_chosen x s)
+        by_place : (i : ℕ) → m ≡ i → Some_at chosen 0 x i → m < length chosen
+        by_place i z (j, a, b, c) = omega (arith, z, a, b)
 
-        same : m ≡ w.0
-        same = some_same (sym e ∙ ap (λ r. or_position r (or_position (value_position (length chosen) q (value_name p) x) (position_from (suc (length chosen)) met x))) w.1)
-
-        by_place : Some_at chosen 0 x w.0 → m < length chosen
-        by_place (j, a, b, c) = let z = same in omega (arith, z, a, b)
+        by_own : Own_or_known x → m < length chosen
+        by_own (inl o) =
+            let w = among_found chosen 0 x (standing_chosen x s o) in
+            by_place w.0 (some_same (sym e ∙ ap (λ r. or_position r (or_position (value_position (length chosen) q (value_name p) x) (position_from (suc (length chosen)) met x))) w.1)) (found_at chosen 0 x w.0 w.1)
+        by_own (inr o) = absurd (known_no_frame x o m e)
 
     not_chosen : (x : Free) → is_own [] q x ≡ false → position_from 0 chosen x ≡ None
     not_chosen x e = by_place (position_from 0 chosen x) refl
@@ -327,16 +378,13 @@ module _ (N : Names) (types : Sub) (home : ℕ → ℕ) (K : Kinds) (places : Ki
         by_place (Some i) f = absurd (let z : false ≡ true = sym e ∙ chosen_here x i f in cc)
 
     -- the argument's value, and what is met, have positions behind those that are chosen
-    pub frame_value : (x : Free) → Is_value p x → frame met x ≡ Some (length chosen)
-    frame_value x v = by_pattern p v
+    pub frame_value : (x : Free) → Is_value (value_name p) x → frame met x ≡ Some (length chosen)
+    frame_value x v = by_value (value_name p) v
       where
-        by_pattern : (r : FlatPattern) → Is_value r x → or_position (position_from 0 chosen x) (or_position (value_position (length chosen) q (value_name r) x) (position_from (suc (length chosen)) met x)) ≡ Some (length chosen)
-        by_pattern (Bound_pattern y) v = ap (λ c. or_position c (or_position (value_position (length chosen) q (Some y.0) x) (position_from (suc (length chosen)) met x))) (not_chosen x (ap (is_own [] q) v)) ∙ ap (λ z. or_position (value_position (length chosen) q (Some y.0) z) (position_from (suc (length chosen)) met x)) v
-            ∙ ap (λ b. or_position (cond b (Some (length chosen)) None) (position_from (suc (length chosen)) met x)) (eq-eqb y.0 y.0 refl)
-        by_pattern Wild_pattern v = absurd v
-        by_pattern (Tuple_pattern ps) v = absurd v
-        by_pattern (Record_pattern fs ps) v = absurd v
-        by_pattern (Typed_pattern r t) v = absurd v
+        by_value : (r : Option ℕ) → Is_value r x → or_position (position_from 0 chosen x) (or_position (value_position (length chosen) q r x) (position_from (suc (length chosen)) met x)) ≡ Some (length chosen)
+        by_value (Some y) v = ap (λ c. or_position c (or_position (value_position (length chosen) q (Some y) x) (position_from (suc (length chosen)) met x))) (not_chosen x (ap (is_own [] q) v)) ∙ ap (λ z. or_position (value_position (length chosen) q (Some y) z) (position_from (suc (length chosen)) met x)) v
+            ∙ ap (λ b. or_position (cond b (Some (length chosen)) None) (position_from (suc (length chosen)) met x)) (eq-eqb y y refl)
+        by_value None v = absurd v
 
     pub frame_met : (x : Free) → stands_among met x ≡ true → (j : ℕ) × (frame met x ≡ Some (suc (length chosen) + j))
     frame_met x s = by_form (mets x s)
@@ -348,8 +396,8 @@ module _ (N : Names) (types : Sub) (home : ℕ → ℕ) (K : Kinds) (places : Ki
         by_place : (m : ℕ) → position_from (suc (length chosen)) met x ≡ Some m → Some_at met (suc (length chosen)) x m → (j : ℕ) × (position_from (suc (length chosen)) met x ≡ Some (suc (length chosen) + j))
         by_place m e (j, a, b, c) = (j, e ∙ ap Some a)
 
-        by_form : (n : ℕ) × ((i : ℕ) × (x ≡ Unknown n i)) → (j : ℕ) × (frame met x ≡ Some (suc (length chosen) + j))
-        by_form (n, (i, e)) =
+        by_form : (n : ℕ) × ((i : ℕ) × (x ≡ Unknown n i) × (In (Unknown n i) → ⊥)) → (j : ℕ) × (frame met x ≡ Some (suc (length chosen) + j))
+        by_form (n, (i, e, u)) =
             let w = among_found met (suc (length chosen)) x s in
             let k = by_place w.0 w.1 (found_at met (suc (length chosen)) x w.0 w.1) in (
               k.0,
@@ -357,37 +405,27 @@ module _ (N : Names) (types : Sub) (home : ℕ → ℕ) (K : Kinds) (places : Ki
                   ∙ ap (λ z. or_position (value_position (length chosen) q (value_name p) z) (position_from (suc (length chosen)) met x)) e ∙ ap (λ c. or_position c (position_from (suc (length chosen)) met x)) (no_value (value_name p) n i) ∙ k.1,
             )
 
-    placed_value : (r : FlatPattern) → Plain_pattern types home K places r q → or_position (position_from 0 chosen (value_of r q)) (value_place r q (length chosen) (value_of r q)) ≡ Some (length chosen)
-    placed_value (Bound_pattern y) h = ap (λ r. or_position r (value_place (Bound_pattern y) q (length chosen) (Name y.0))) (not_chosen (Name y.0) refl) ∙ ap (λ b. cond b (Some (length chosen)) None) (eq-eqb y.0 y.0 refl)
-    placed_value Wild_pattern h = ap (λ r. or_position r (value_place Wild_pattern q (length chosen) (Unknown q 0))) (not_chosen (Unknown q 0) refl) ∙ ap (λ b. cond b (Some (length chosen)) None) (eq-eqb q q refl)
-    placed_value (Tuple_pattern ps) h = absurd h
-    placed_value (Record_pattern fs ps) h = absurd h
-    placed_value (Typed_pattern r t) h = absurd h
+    placed_value : (r : Option ℕ) → or_position (position_from 0 chosen (value_of r q)) (value_place r q (length chosen) (value_of r q)) ≡ Some (length chosen)
+    placed_value (Some y) = ap (λ r. or_position r (value_place (Some y) q (length chosen) (Name y))) (not_chosen (Name y) refl) ∙ ap (λ b. cond b (Some (length chosen)) None) (eq-eqb y y refl)
+    placed_value None = ap (λ r. or_position r (value_place None q (length chosen) (Unknown q 0))) (not_chosen (Unknown q 0) refl) ∙ ap (λ b. cond b (Some (length chosen)) None) (eq-eqb q q refl)
 
     pub placed_at : (i : ℕ) → i ≤ length chosen → position (inside met i) ≡ Some i
     placed_at i a = by_side (order i (length chosen))
       where
         by_side : (i < length chosen) ⊎ (length chosen ≤ i) → position (inside met i) ≡ Some i
-        by_side (inl b) = ap position (at_chosen i b) ∙ ap (λ r. or_position r (value_place p q (length chosen) (nth chosen i))) (once_found chosen (sizes_once (is_own [] q) own) 0 i b) ∙ ap Some (let z : 0 + i ≡ i = omega arith in z)
-        by_side (inr b) = let z : i ≡ length chosen = omega (arith, a, b) in ap (λ j. position (inside met j)) z ∙ ap position at_value ∙ placed_value p plain ∙ ap Some (sym z)
+        by_side (inl b) = ap position (at_chosen i b) ∙ ap (λ r. or_position r (value_place (value_name p) q (length chosen) (nth chosen i))) (once_found chosen (sizes_once (is_own [] q) own) 0 i b) ∙ ap Some (let z : 0 + i ≡ i = omega arith in z)
+        by_side (inr b) = let z : i ≡ length chosen = omega (arith, a, b) in ap (λ j. position (inside met j)) z ∙ ap position at_value ∙ placed_value (value_name p) ∙ ap Some (sym z)
 
-    module _ (Elow : Elsewhere N types home lo (1 + lo) In) (s : ℕ → Size) (here : s q ≡ own) where
+    module _ (Elow : Elsewhere N types home lo (1 + lo) In) (s : ℕ → Size) (here : s q ≡ own) (takes : Pattern_takes N types s home (λ d. d) p q (s q)) where
       abbrev Kept : Free → Type 0
       Kept d = (position d ≡ None) × Outside N types s home at hi d × Outside N types s home lo (1 + lo) d
-
-      const_outside : (a b : ℕ) (x : Free) → Is_const x → In_nodes N types home a b x → ⊥
-      const_outside a b (Const c) i h = h
-      const_outside a b (Name c) i h = i
-      const_outside a b (Own c m) i h = i
-      const_outside a b (Unknown c m) i h = i
-      const_outside a b (Slot c) i h = i
 
       kept_of : (x : Free) → Or_const x → Kept x
       kept_of x (inl i) = (known_no_position x (inl i), λ h. E.outside x i (inside_wider N types home at hi q hi (omega (arith, l2)) (omega arith) x h), λ h. Elow.outside x i h)
       kept_of x (inr i) = (known_no_position x (inr i), λ h. const_outside at hi x i h, λ h. const_outside lo (1 + lo) x i h)
 
-      pub own_away : (x : Free) → is_own [] q x ≡ true → In_nodes N types home (q + pattern_numbers p) hi x → ⊥
-      own_away x e h = beyond x (owned_here x e) h (pattern_some p)
+      pub own_away : (x : Free) → Own_or_known x → In_nodes N types home (q + pattern_numbers p) hi x → ⊥
+      own_away x (inl e) h = beyond x (owned_here x e) h (pattern_some p)
         where
           beyond : (x : Free) → In_nodes N types home q (1 + q) x → In_nodes N types home (q + pattern_numbers p) hi x → 1 ≤ pattern_numbers p → ⊥
           beyond (Const c) i h n = i
@@ -395,21 +433,12 @@ module _ (N : Names) (types : Sub) (home : ℕ → ℕ) (K : Kinds) (places : Ki
           beyond (Name c) i h n = let a = i.1 in let b = h.0 in omega (arith, a, b, n)
           beyond (Own c m) i h n = let a = i.1 in let b = h.0 in omega (arith, a, b, n)
           beyond (Unknown c m) i h n = let a = i.1 in let b = h.0 in omega (arith, a, b, n)
+      own_away x (inr (inl i)) h = E.outside x i (inside_wider N types home (q + pattern_numbers p) hi q hi (omega arith) (omega arith) x h)
+      own_away x (inr (inr c)) h = const_outside (q + pattern_numbers p) hi x c h
 
-      pub takes_parameter : (r : FlatPattern) → Plain_pattern types home K places r q → Pattern_takes N types s home (λ d. d) r q (s q)
-      unfolding Pattern_takes
-      takes_parameter (Bound_pattern y) h = not_renamed (λ d. d) (λ d. refl) (s q)
-      takes_parameter Wild_pattern h = not_renamed (λ d. d) (λ d. refl) (s q)
-      takes_parameter (Tuple_pattern ps) h = absurd h
-      takes_parameter (Record_pattern fs ps) h = absurd h
-      takes_parameter (Typed_pattern r t) h = absurd h
-
-      pub named_value : (r : FlatPattern) → Plain_pattern types home K places r q → (d : Free) → d ≡ value_of r q → Named_value N types s home (value_name r) d
-      named_value (Bound_pattern y) h d e = e
-      named_value Wild_pattern h d e = tt
-      named_value (Tuple_pattern ps) h d e = absurd h
-      named_value (Record_pattern fs ps) h d e = absurd h
-      named_value (Typed_pattern r t) h d e = absurd h
+      pub value_named : (r : Option ℕ) (d : Free) → d ≡ value_of r q → Named_value N types s home r d
+      value_named (Some y) d e = e
+      value_named None d e = tt
 
       pub all_kept : (t : Size) → Each (Scoped (May_stand met)) 0 t → Each (Scoped Kept) 0 (arrow chosen taking met t)
       unfolding Each
@@ -426,9 +455,9 @@ module _ (N : Names) (types : Sub) (home : ℕ → ℕ) (K : Kinds) (places : Ki
         placed = placed_at;
         own = λ d i e. inside_wider N types home q (1 + q) q (q + pattern_numbers p) (omega arith) (let n = pattern_some p in omega (arith, n)) d (position_here d i e);
         parameter = here ∙ sym (arrow_back own own_may);
-        parts = takes_parameter p plain;
+        parts = takes;
         low = bound_low (frame met) (λ i. i < length chosen) own (each_scoped (λ x. stands own x ≡ true) (λ x. (m : ℕ) → frame met x ≡ Some m → m < length chosen) frame_chosen own 0 own_stands);
         kept = all_kept t h;
-        away = subst (λ w. Away N types s home (q + pattern_numbers p) hi w) (sym here) (each_scoped (λ x. is_own [] q x ≡ true) (λ x. Outside N types s home (q + pattern_numbers p) hi x) own_away own 0 own_is);
-        named = named_value p plain (inside met (length chosen)) at_value;
+        away = subst (λ w. Away N types s home (q + pattern_numbers p) hi w) (sym here) (each_scoped Own_or_known (λ x. Outside N types s home (q + pattern_numbers p) hi x) own_away own 0 own_is);
+        named = value_named (value_name p) (inside met (length chosen)) at_value;
       }

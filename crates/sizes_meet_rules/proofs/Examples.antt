@@ -57,7 +57,7 @@ home b = 1
 abbrev K : Kinds
 K v = kind.Data
 
-plain : Plain_term types home K kind.Data counts 0
+plain : Plain_term types home K kind.Data N counts 0
 unfolding Formed_type Formed_types rank least
 plain = ((refl, tt, omega arith, tt), (tt, (((scalar.Int int.I64, refl), tt), (tt, tt))))
 

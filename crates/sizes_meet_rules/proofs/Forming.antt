@@ -1,15 +1,50 @@
 -- The form of sized types: what is kept under replacing, and where branches meet.
-use Rattle.std.proofs.Common.{◌≡◌, ℕ, suc, ◌+◌, ◌≤◌, Bool, true, false, cond, refl, ap, ◌∙◌, arith}
+use Rattle.std.proofs.Common.{◌≡◌, ℕ, suc, ◌+◌, ◌<◌, ◌≤◌, Bool, true, false, cond, nat_eq, Option, Some, None, refl, ap, ◌∙◌, arith}
 use Rattle.std.specs.Prelude.{min}
 use Rattle.fut_types.specs.declared.Head.TheVariants as head
 use Rattle.fut_types.specs.Types.{Made, none, more, Kinds, rank, least, cap}
-use Rattle.sized_types.specs.Sizes.{Free, Unknown, Dim, At, Variable, Size, Hole, Open, Level, Built, Fun, Sizes, no_size, size_and, erased, all_erased, is_dim, replaced, all_replaced, levels}
+use Rattle.sized_types.specs.Sizes.{Free, Unknown, Dim, At, Bound, Variable, Size, Hole, Open, Level, Built, Fun, Sizes, no_size, size_and, erased, all_erased, is_dim, replaced, all_replaced, renaming, given, placed, binding, levels}
 use Rattle.fut_sizes.specs.Agreeing.{kept, all_kept}
 use Rattle.fut_sizes.specs.Rules.{Each_hole, Each_holes}
-use Rattle.fut_sizes.specs.Suiting.{Each, Each_all, Scoped, Data, All_data}
+use Rattle.fut_sizes.specs.Suiting.{Each, Each_all, Scoped, Of_positions, Data, All_data}
 use Rattle.sizes_meet_rules.specs.Known.{Formed, All_formed}
 
-module _ (g : ℕ → Dim → Dim) where
+-- sizes by themselves are renamed, or bound in a frame further out
+pub renaming_keeps : (ρ : Free → Free) (Q : ℕ → Type 0) (m j : ℕ) (d : Dim) → m ≤ j → Of_positions Q m d → Of_positions Q m (renaming ρ j d)
+renaming_keeps ρ Q m j (At x) l h = tt
+renaming_keeps ρ Q m j (Bound k i) l h = h
+
+pub binding_keeps : (position : Free → Option ℕ) (Q : ℕ → Type 0) (m j : ℕ) (d : Dim) → m ≤ j → Of_positions Q m d → Of_positions Q m (binding position j d)
+binding_keeps position Q m j (At x) l h = one (position x)
+  where
+    one : (o : Option ℕ) → Of_positions Q m (placed j x o)
+    one None = tt
+    one (Some i) = λ e. absurd (omega (arith, e, l))
+binding_keeps position Q m j (Bound k i) l h = h
+
+pub given_keeps : (δ : ℕ → Free) (Q : ℕ → Type 0) (m j : ℕ) (d : Dim) → m ≤ j → Of_positions Q m d → Of_positions Q m (given δ j d)
+given_keeps δ Q m j (At x) l h = tt
+given_keeps δ Q m j (Bound k i) l h = one (nat_eq (suc k) j)
+  where
+    one : (b : Bool) → Of_positions Q m (cond b (At (δ i)) (Bound k i))
+    one true = tt
+    one false = h
+
+module _ (g : ℕ → Dim → Dim) (keeps : (Q : ℕ → Type 0) (m j : ℕ) (d : Dim) → m ≤ j → Of_positions Q m d → Of_positions Q m (g j d)) where
+  mutual
+    unfolding Each Each_all replaced all_replaced
+
+    low_replaced : (Q : ℕ → Type 0) (t : Size) (m j : ℕ) → m ≤ j → Each (Of_positions Q) m t → Each (Of_positions Q) m (replaced g j t)
+    low_replaced Q (Hole v) m j l h = tt
+    low_replaced Q (Open n v u) m j l h = tt
+    low_replaced Q (Level d t) m j l h = (keeps Q m j d l h.0, low_replaced Q t m j l h.1)
+    low_replaced Q (Built k ts) m j l h = all_low_replaced Q ts m j l h
+    low_replaced Q (Fun k p r) m j l h = (low_replaced Q p (suc m) (suc j) (omega (arith, l)) h.0, low_replaced Q r (suc m) (suc j) (omega (arith, l)) h.1)
+
+    all_low_replaced : (Q : ℕ → Type 0) (ts : Sizes) (m j : ℕ) → m ≤ j → Each_all (Of_positions Q) m ts → Each_all (Of_positions Q) m (all_replaced g j ts)
+    all_low_replaced Q no_size m j l h = tt
+    all_low_replaced Q (size_and t ts) m j l h = (low_replaced Q t m j l h.0, all_low_replaced Q ts m j l h.1)
+
   mutual
     unfolding Formed All_formed replaced all_replaced
 
@@ -18,7 +53,7 @@ module _ (g : ℕ → Dim → Dim) where
     formed_replaced (Open n v u) j h = h
     formed_replaced (Level d t) j h = formed_replaced t j h
     formed_replaced (Built k ts) j h = (h.0, all_formed_replaced ts j h.1)
-    formed_replaced (Fun k p r) j h = (formed_replaced p (suc j) h.0, formed_replaced r (suc j) h.1)
+    formed_replaced (Fun k p r) j h = (formed_replaced p (suc j) h.0, formed_replaced r (suc j) h.1, low_replaced (λ i. i < k) p 1 (suc j) (omega arith) h.2)
 
     all_formed_replaced : (ts : Sizes) (j : ℕ) → All_formed ts → All_formed (all_replaced g j ts)
     all_formed_replaced no_size j h = tt

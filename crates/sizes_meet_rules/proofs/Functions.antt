@@ -1,26 +1,30 @@
 -- Functions: each parameter binds the sizes that are its own, and the last arrow those that the body meets.
-use Rattle.std.proofs.Common.{◌≡◌, ◌⊎◌, ℕ, suc, ◌+◌, ◌<◌, ◌≤◌, List, [], length, true, false, ◌&&◌, cond, Option, Some, None, refl, sym, ap, ◌∙◌, subst, arith, inl, inr, lt-ltb}
-use Rattle.std.specs.Prelude.{nat_lt}
-use Rattle.std.proofs.lemmas.Bool.{ne_eqb, le-leb}
+use Rattle.std.proofs.Common.{◌≡◌, ◌⊎◌, ℕ, suc, ◌+◌, ◌<◌, ◌≤◌, List, [], length, Bool, true, false, ◌&&◌, cond, Option, Some, None, refl, sym, ap, ◌∙◌, subst, arith, inl, inr, lt-ltb, ltb-true, eq-eqb}
+use Rattle.std.specs.Prelude.{nat_lt, nat_le}
+use Rattle.std.proofs.lemmas.Bool.{ne_eqb, le-leb, leb-true}
 use Rattle.fut_flat.specs.Terms.{Bound_pattern, Wild_pattern, Tuple_pattern, Record_pattern, Typed_pattern, no_pattern}
 use Rattle.fut_flat.specs.Erased.{FlatPattern}
 use Rattle.fut_types.specs.declared.Kind.{Kind}
 use Rattle.fut_types.specs.Types.{Sub, Kinds}
 use Rattle.fut_typing.specs.Names.{Names}
-use Rattle.sized_types.specs.Sizes.{Free, Const, Name, Own, Unknown, Slot, Dim, At, Bound, Variable, Size, Hole, Open, Level, Built, Fun, Sizes, no_size, size_and, placed, binding, bound, replaced, all_replaced}
+use Rattle.sized_types.specs.Sizes.{Free, Const, Name, Own, Unknown, Slot, Dim, At, Bound, Variable, Size, Hole, Open, Level, Built, Fun, Sizes, no_size, size_and, placed, binding, bound, renaming, renamed, replaced, all_replaced}
 use Rattle.sized_types.specs.Standing.{stands}
-use Rattle.fut_sizes.specs.Functions.{stands_among, sizes_in, position_from, or_position, is_own, is_met}
+use Rattle.fut_sizes.specs.Functions.{stands_among, sizes_in, position_from, or_position, value_name, is_own, is_met}
 use Rattle.fut_sizes.specs.Rules.{Each_hole, Tells_size, Tells_type, Telling}
-use Rattle.fut_sizes.specs.Scopes.{Scope}
+use Rattle.fut_sizes.specs.Scopes.{Scope, names}
+use Rattle.fut_sizes.specs.Sizing.{part_names}
 use Rattle.fut_sizes.specs.Scoping.{Context, with_positions, with_pattern, if_some}
 use Rattle.fut_sizes.specs.Suiting.{Each, Each_all, Scoped, Of_positions}
 use Rattle.sizes_meet_rules.specs.Known.{Is_const, Judged, Elsewhere}
 use Rattle.sizes_meet_rules.specs.Plain.{Plain_pattern}
 use Rattle.sizes_meet_rules.proofs.Arrows.{Is_value, value_place, chosen, frame, position, May_stand, standing_own, frame_value, frame_met}
 use Rattle.sizes_meet_rules.proofs.Listing.{Some_at, found_at, among_found, all_nth, sizes_are, sizes_listed}
-use Rattle.sizes_meet_rules.proofs.Meeting.{Met_in, With_met}
-use Rattle.sizes_meet_rules.proofs.Naming.{Named_by, Is_bound, bound_scope, Stands_there, judged_with}
-use Rattle.sizes_meet_rules.proofs.Replacing.{each_as, each_both, hole_as}
+use Rattle.sizes_meet_rules.proofs.Meeting.{Met_in, With_met, met_wider}
+use Rattle.sizes_meet_rules.proofs.Naming.{Named_by, Stands_there, named_there, named_among, judged_with}
+use Rattle.sizes_meet_rules.proofs.Taking.{Has_parts, bound_scope, Nodes}
+use Rattle.fut_flat.specs.Numbers.{pattern_numbers}
+use Rattle.fut_sizes.specs.Agreeing.{is_among}
+use Rattle.sizes_meet_rules.proofs.Replacing.{each_as, each_both, each_back, hole_as}
 
 -- ---- what a bound type names
 
@@ -46,75 +50,105 @@ module _ (position : Free → Option ℕ) (Q : ℕ → Type 0) where
 
 -- ---- sizes that a body meets
 
-pub met_unknown : (lo hi : ℕ) (t : Size) (x : Free) → stands_among (sizes_in (is_met lo hi) t) x ≡ true → (n : ℕ) × ((i : ℕ) × (x ≡ Unknown n i))
-met_unknown lo hi t x e = by_place (found_at (sizes_in (is_met lo hi) t) 0 x w.0 w.1)
+-- each is an unknown that is not known outside
+abbrev pub Unknown_met : (Free → Type 0) → Free → Type 0
+Unknown_met In x = (n : ℕ) × ((i : ℕ) × (x ≡ Unknown n i) × (In (Unknown n i) → ⊥))
+
+abbrev pub Unmet : ℕ → ℕ → (Free → Type 0) → Type 0
+Unmet lo hi In = (n i : ℕ) → In (Unknown n i) → is_met lo hi (Unknown n i) ≡ true → ⊥
+
+pub met_between : (lo hi n i : ℕ) → is_met lo hi (Unknown n i) ≡ true → (lo ≤ n) × (n < hi)
+met_between lo hi n i e = by_first (nat_le lo n) refl e
+  where
+    by_first : (b : Bool) → nat_le lo n ≡ b → b && nat_lt n hi ≡ true → (lo ≤ n) × (n < hi)
+    by_first true f g = (leb-true lo n f, ltb-true n hi g)
+    by_first false f g = absurd (let z : false ≡ true = g in cc)
+
+pub met_unknown : (lo hi : ℕ) (In : Free → Type 0) → Unmet lo hi In → (t : Size) (x : Free) → stands_among (sizes_in (is_met lo hi) t) x ≡ true → Unknown_met In x
+met_unknown lo hi In unmet t x e = by_place (found_at (sizes_in (is_met lo hi) t) 0 x w.0 w.1)
   where
     w : (i : ℕ) × (position_from 0 (sizes_in (is_met lo hi) t) x ≡ Some i)
     w = among_found (sizes_in (is_met lo hi) t) 0 x e
 
-    by_form : (y : Free) → is_met lo hi y ≡ true → (n : ℕ) × ((i : ℕ) × (y ≡ Unknown n i))
-    by_form (Unknown n i) h = (n, (i, refl))
+    by_form : (y : Free) → is_met lo hi y ≡ true → Unknown_met In y
+    by_form (Unknown n i) h = (n, (i, refl, λ k. unmet n i k h))
     by_form (Const c) h = absurd (let z : false ≡ true = h in cc)
     by_form (Name c) h = absurd (let z : false ≡ true = h in cc)
     by_form (Own n i) h = absurd (let z : false ≡ true = h in cc)
     by_form (Slot i) h = absurd (let z : false ≡ true = h in cc)
 
-    by_place : Some_at (sizes_in (is_met lo hi) t) 0 x w.0 → (n : ℕ) × ((i : ℕ) × (x ≡ Unknown n i))
+    by_place : Some_at (sizes_in (is_met lo hi) t) 0 x w.0 → Unknown_met In x
     by_place (j, a, b, c) = by_form x (ap (is_met lo hi) (sym c) ∙ all_nth (is_met lo hi) (sizes_in (is_met lo hi) t) (sizes_are (is_met lo hi) t) j b)
 
-pub none_met : (x : Free) → stands_among [] x ≡ true → (n : ℕ) × ((i : ℕ) × (x ≡ Unknown n i))
-none_met x e = absurd (let z : false ≡ true = e in cc)
+pub none_met : (In : Free → Type 0) (x : Free) → stands_among [] x ≡ true → Unknown_met In x
+none_met In x e = absurd (let z : false ≡ true = e in cc)
 
-module _ (N : Names) (types : Sub) (home : ℕ → ℕ) (K : Kinds) (places : Kind) (lo at hi q : ℕ) (p : FlatPattern) (plain : Plain_pattern types home K places p q) (In : Free → Type 0) (Vars : Variable → Type 0) (E : Elsewhere N types home q hi In) (l0 : lo < q) (l2 : q < at) (l3 : at ≤ hi)
-    (own : Size) (own_is : Each (Scoped (λ x. is_own [] q x ≡ true)) 0 own) (own_stands : Each (Scoped (λ x. stands own x ≡ true)) 0 own) where
+module _ (N : Names) (types : Sub) (home : ℕ → ℕ) (K : Kinds) (places : Kind) (lo at hi q : ℕ) (p : FlatPattern) (plain : Plain_pattern types home K places p q) (In : Free → Type 0) (Vars : Variable → Type 0) (E : Elsewhere N types home q hi In) (l0 : lo < q) (l2 : q < at) (l2' : q + pattern_numbers p ≤ at) (l3 : at ≤ hi) (parts : List ℕ) (among : (b : ℕ) → is_among (part_names p) b ≡ true → is_among parts b ≡ true)
+    (own : Size) (own_is : Each (Scoped (λ x. (is_own [] q x ≡ true) ⊎ (In x ⊎ Is_const x))) 0 own) (own_stands : Each (Scoped (λ x. stands own x ≡ true)) 0 own) where
   -- what is known behind the parameter
   abbrev pub Entered_in : Free → Type 0
-  Entered_in d = In d ⊎ ((stands own d ≡ true) ⊎ Named_by p own d)
+  Entered_in d = In d ⊎ ((stands own d ≡ true) ⊎ Named_by N p own d)
 
   abbrev pub May : List Free → Free → Type 0
   May met x = May_stand N types home K places lo at hi q p plain In E l2 l3 own own_is own_stands met x
 
-  named_value : (r : FlatPattern) (x : Free) → Named_by r own x → Is_value r x
-  named_value (Bound_pattern y) x h = h.0
-  named_value Wild_pattern x h = h
-  named_value (Tuple_pattern ps) x h = h
-  named_value (Record_pattern fs ps) x h = h
-  named_value (Typed_pattern r t) x h = h
+  -- not the name of a part of an argument
+  abbrev pub No_part : Free → Type 0
+  No_part x = (b : ℕ) → x ≡ Name b → is_among parts b ≡ false
 
-  pub entered_may : (met : List Free) (x : Free) → Entered_in x → May met x
-  entered_may met x (inl i) = inl i
-  entered_may met x (inr (inl s)) = inr (inl s)
-  entered_may met x (inr (inr n)) = inr (inr (inl (named_value p x n)))
+  -- a name is the value or a part of the argument
+  abbrev Value_or_part : FlatPattern → Free → Type 0
+  Value_or_part r x = Is_value (value_name r) x ⊎ ((b : ℕ) × (x ≡ Name b) × (is_among (part_names r) b ≡ true))
 
-  -- in the last arrow, what the body meets has its position
-  pub last_may : (t : Size) → Each (Scoped (With_met Entered_in at hi)) 0 t → Each (Scoped (May (sizes_in (is_met lo hi) t))) 0 t
-  last_may t h = each_as (λ j d. Scoped (With_met Entered_in at hi) j d × ((x : Free) → d ≡ At x → is_met lo hi x ≡ true → stands_among met x ≡ true)) (Scoped (May met)) here t 0
-      (each_both (Scoped (With_met Entered_in at hi)) (λ j d. (x : Free) → d ≡ At x → is_met lo hi x ≡ true → stands_among met x ≡ true) t 0 h (sizes_listed (is_met lo hi) t))
+  named_value : (r : FlatPattern) (n : ℕ) → Plain_pattern types home K places r n → (x : Free) → Named_by N r own x → Value_or_part r x
+  named_value (Bound_pattern y) n s x h = inl h.0
+  named_value Wild_pattern n s x h = absurd h
+  named_value (Tuple_pattern ps) n s x h = let w = named_there types home K places N (Tuple_pattern ps) n s own x h in inr (w.0, w.1, named_among N (Tuple_pattern ps) own w.0 (subst (λ z. Named_by N (Tuple_pattern ps) own z) w.1 h))
+  named_value (Record_pattern fs ps) n s x h = let w = named_there types home K places N (Record_pattern fs ps) n s own x h in inr (w.0, w.1, named_among N (Record_pattern fs ps) own w.0 (subst (λ z. Named_by N (Record_pattern fs ps) own z) w.1 h))
+  named_value (Typed_pattern r t) n s x h = named_value r n s.1 x h
+
+  pub entered_may : (met : List Free) (x : Free) → Entered_in x → No_part x → May met x
+  entered_may met x (inl i) bare = inl i
+  entered_may met x (inr (inl s)) bare = inr (inl s)
+  entered_may met x (inr (inr n)) bare = by_form (named_value p q plain x n)
+    where
+      by_form : Value_or_part p x → May met x
+      by_form (inl v) = inr (inr (inl v))
+      by_form (inr (b, e, f)) = absurd (let z : true ≡ false = sym (among b f) ∙ bare b e in cc)
+
+  is_met_here : (n i : ℕ) → lo ≤ n → n < hi → is_met lo hi (Unknown n i) ≡ true
+  is_met_here n i a b = ap (λ c. c && nat_lt n hi) (le-leb lo n a) ∙ lt-ltb n hi b
+
+  by_met : (met : List Free) (x : Free) → Met_in lo hi x → (is_met lo hi x ≡ true → stands_among met x ≡ true) → May met x
+  by_met met (Const c) m k = inr (inr (inr (inl tt)))
+  by_met met (Unknown n i) m k = inr (inr (inr (inr (k (is_met_here n i m.0 m.1)))))
+  by_met met (Name c) m k = absurd m
+  by_met met (Own n i) m k = absurd m
+  by_met met (Slot i) m k = absurd m
+
+  -- what the body gives, without the names of parts
+  abbrev pub Left_in : Free → Type 0
+  Left_in x = (Entered_in x ⊎ Met_in lo hi x) × No_part x
+
+  -- in the last arrow, what is met has its position
+  pub last_may : (t : Size) → Each (Scoped Left_in) 0 t → Each (Scoped (λ x. May (sizes_in (is_met lo hi) t) x × No_part x)) 0 t
+  last_may t h = each_as (λ j d. Scoped Left_in j d × ((x : Free) → d ≡ At x → is_met lo hi x ≡ true → stands_among met x ≡ true)) (Scoped (λ x. May met x × No_part x)) here t 0
+      (each_both (Scoped Left_in) (λ j d. (x : Free) → d ≡ At x → is_met lo hi x ≡ true → stands_among met x ≡ true) t 0 h (sizes_listed (is_met lo hi) t))
     where
       met : List Free
       met = sizes_in (is_met lo hi) t
 
-      is_met_here : (n i : ℕ) → at ≤ n → n < hi → is_met lo hi (Unknown n i) ≡ true
-      is_met_here n i a b = ap (λ c. c && nat_lt n hi) (le-leb lo n (omega (arith, a, l0, l2))) ∙ lt-ltb n hi b
+      by_size : (x : Free) → Left_in x → (is_met lo hi x ≡ true → stands_among met x ≡ true) → May met x × No_part x
+      by_size x (inl o, bare) k = (entered_may met x o bare, bare)
+      by_size x (inr m, bare) k = (by_met met x m k, bare)
 
-      by_met : (x : Free) → Met_in at hi x → (is_met lo hi x ≡ true → stands_among met x ≡ true) → May met x
-      by_met (Const c) m k = inr (inr (inr (inl tt)))
-      by_met (Unknown n i) m k = inr (inr (inr (inr (k (is_met_here n i m.0 m.1)))))
-      by_met (Name c) m k = absurd m
-      by_met (Own n i) m k = absurd m
-      by_met (Slot i) m k = absurd m
-
-      by_size : (x : Free) → With_met Entered_in at hi x → (is_met lo hi x ≡ true → stands_among met x ≡ true) → May met x
-      by_size x (inl o) k = entered_may met x o
-      by_size x (inr m) k = by_met x m k
-
-      here : (j : ℕ) (d : Dim) → Scoped (With_met Entered_in at hi) j d × ((x : Free) → d ≡ At x → is_met lo hi x ≡ true → stands_among met x ≡ true) → Scoped (May met) j d
+      here : (j : ℕ) (d : Dim) → Scoped Left_in j d × ((x : Free) → d ≡ At x → is_met lo hi x ≡ true → stands_among met x ≡ true) → Scoped (λ x. May met x × No_part x) j d
       here j (At x) o = by_size x o.0 (o.1 x refl)
       here j (Bound k i) o = o.0
 
   -- ---- what the rules know behind the parameter
 
-  not_named : (c : ℕ) → (Is_bound p c → ⊥) → position N types home K places lo at hi q p plain In E l2 l3 own own_is own_stands (Name c) ≡ None
+  not_named : (c : ℕ) → is_among (names p) c ≡ false → position N types home K places lo at hi q p plain In E l2 l3 own own_is own_stands (Name c) ≡ None
   not_named c n = by_chosen (position_from 0 (sizes_in (is_own [] q) own) (Name c)) refl
     where
       nowhere : (i : ℕ) → position_from 0 (sizes_in (is_own [] q) own) (Name c) ≡ Some i → ⊥
@@ -123,34 +157,43 @@ module _ (N : Names) (types : Sub) (home : ℕ → ℕ) (K : Kinds) (places : Ki
           by_place : Some_at (sizes_in (is_own [] q) own) 0 (Name c) i → ⊥
           by_place (j, a, b, f) = let z : false ≡ true = ap (is_own [] q) (sym f) ∙ all_nth (is_own [] q) (sizes_in (is_own [] q) own) (sizes_are (is_own [] q) own) j b in cc
 
-      by_value : (r : FlatPattern) → Plain_pattern types home K places r q → (Is_bound r c → ⊥) → value_place r q (length (sizes_in (is_own [] q) own)) (Name c) ≡ None
-      by_value (Bound_pattern y) h n = ap (λ b. cond b (Some (length (sizes_in (is_own [] q) own))) None) (ne_eqb y.0 c (λ z. n (sym z)))
-      by_value Wild_pattern h n = refl
-      by_value (Tuple_pattern ps) h n = absurd h
-      by_value (Record_pattern fs ps) h n = absurd h
-      by_value (Typed_pattern r t) h n = absurd h
+      by_value : (r : Option ℕ) → ((b : ℕ) → r ≡ Some b → b ≡ c → ⊥) → value_place r q (length (sizes_in (is_own [] q) own)) (Name c) ≡ None
+      by_value (Some y) h = ap (λ b. cond b (Some (length (sizes_in (is_own [] q) own))) None) (ne_eqb y c (h y refl))
+      by_value None h = refl
 
-      by_chosen : (o : Option ℕ) → position_from 0 (sizes_in (is_own [] q) own) (Name c) ≡ o → or_position (position_from 0 (sizes_in (is_own [] q) own) (Name c)) (value_place p q (length (sizes_in (is_own [] q) own)) (Name c)) ≡ None
-      by_chosen None e = ap (λ o. or_position o (value_place p q (length (sizes_in (is_own [] q) own)) (Name c))) e ∙ by_value p plain n
+      other : (r : FlatPattern) (m : ℕ) → Plain_pattern types home K places r m → is_among (names r) c ≡ false → (b : ℕ) → value_name r ≡ Some b → b ≡ c → ⊥
+      other (Bound_pattern y) m h n b e z = let w : y.0 ≡ b = (let v : Some y.0 ≡ Some b = e in cc) in let v : true ≡ false = sym (ap (λ b. cond b true false) (eq-eqb c y.0 (sym (w ∙ z)))) ∙ n in cc
+      other Wild_pattern m h n b e z = let v : None ≡ Some b = e in cc
+      other (Tuple_pattern ps) m h n b e z = let v : None ≡ Some b = e in cc
+      other (Record_pattern fs ps) m h n b e z = let v : None ≡ Some b = e in cc
+      other (Typed_pattern r t) m h n b e z = other r m h.1 n b e z
+
+      by_chosen : (o : Option ℕ) → position_from 0 (sizes_in (is_own [] q) own) (Name c) ≡ o → or_position (position_from 0 (sizes_in (is_own [] q) own) (Name c)) (value_place (value_name p) q (length (sizes_in (is_own [] q) own)) (Name c)) ≡ None
+      by_chosen None e = ap (λ o. or_position o (value_place (value_name p) q (length (sizes_in (is_own [] q) own)) (Name c))) e ∙ by_value (value_name p) (other p q plain n)
       by_chosen (Some i) e = absurd (nowhere i e)
 
-  owned_no_name : (d : Free) → stands own d ≡ true → (b : ℕ) → d ≡ Name b → ⊥
-  owned_no_name d s b e = let z : false ≡ true = ap (is_own [] q) (sym e) ∙ standing_own N types home K places lo at hi q p plain In E l2 l3 own own_is own_stands d s in cc
-
-  pub entered_judged : (s : ℕ → Size) (scope : Scope) (G : Context) → Judged In Vars scope G → s q ≡ own → Judged Entered_in Vars (bound_scope p own scope) (with_pattern s p q (with_positions (λ d. position N types home K places lo at hi q p plain In E l2 l3 own own_is own_stands d) G))
-  entered_judged s scope G J e = judged_with N types K places In Entered_in Vars Vars (λ d i. inl i) (λ v i. i) home p q plain s own scope (with_positions (λ d. position N types home K places lo at hi q p plain In E l2 l3 own own_is own_stands d) G) e
-      (λ b i h. E.outside (Name b) i (omega (arith, h), omega (arith, h, l2, l3))) split (λ v i. inl i) sizes J.finds J.finds_types
+  owned_no_name : (d : Free) → stands own d ≡ true → (b : ℕ) → d ≡ Name b → (q ≤ home b) × (home b < q + pattern_numbers p) → ⊥
+  owned_no_name d s b e h = by_own (standing_own N types home K places lo at hi q p plain In E l2 l3 own own_is own_stands d s)
     where
-      split : (d : Free) → Entered_in d → In d ⊎ (Stands_there home q own d ⊎ (Named_by p own d ⊎ Is_const d))
+      by_own : (is_own [] q d ≡ true) ⊎ (In d ⊎ Is_const d) → ⊥
+      by_own (inl o) = let z : false ≡ true = ap (is_own [] q) (sym e) ∙ o in cc
+      by_own (inr (inl i)) = let x = h.0 in let y = h.1 in E.outside (Name b) (subst In e i) (x, omega (arith, y, l2', l3))
+      by_own (inr (inr c)) = subst Is_const e c
+
+  pub entered_judged : Has_parts N p own → (s : ℕ → Size) (scope : Scope) (G : Context) → Judged In Vars scope G → Nodes N p q own s → Judged Entered_in Vars (bound_scope N p own scope) (with_pattern s p q (with_positions (λ d. position N types home K places lo at hi q p plain In E l2 l3 own own_is own_stands d) G))
+  entered_judged fits s scope G J nodes = judged_with N types K places Entered_in Vars home s In Vars p q plain own fits nodes scope
+      (with_positions (λ d. position N types home K places lo at hi q p plain In E l2 l3 own own_is own_stands d) G) (λ b i h. let x = h.0 in let y = h.1 in E.outside (Name b) i (omega (arith, x), omega (arith, y, l2', l3))) split (λ v i. inl i) sizes J.finds J.finds_types
+    where
+      split : (d : Free) → Entered_in d → In d ⊎ (Stands_there home q (q + pattern_numbers p) own d ⊎ (Named_by N p own d ⊎ Is_const d))
       split d (inl i) = inl i
-      split d (inr (inl s)) = inr (inl (s, λ b z w. owned_no_name d s b z))
+      split d (inr (inl s)) = inr (inl (s, λ b z w. owned_no_name d s b z w))
       split d (inr (inr n)) = inr (inr (inl n))
 
-      sizes : (b : ℕ) (u : Size) → (Is_bound p b → ⊥) → scope b ≡ Some (record { size = u; is_general = false }) → if_some (position N types home K places lo at hi q p plain In E l2 l3 own own_is own_stands (Name b)) (G.sizes b) ≡ Some u
+      sizes : (b : ℕ) (u : Size) → is_among (names p) b ≡ false → scope b ≡ Some (record { size = u; is_general = false }) → if_some (position N types home K places lo at hi q p plain In E l2 l3 own own_is own_stands (Name b)) (G.sizes b) ≡ Some u
       sizes b u n z = ap (λ o. if_some o (G.sizes b)) (not_named b n) ∙ J.sizes b u z
 
   -- ---- what a function of data tells
-  module _ (met : List Free) (mets : (x : Free) → stands_among met x ≡ true → (n : ℕ) × ((i : ℕ) × (x ≡ Unknown n i))) (s : ℕ → Size) (scope : Scope) (G : Context) (J : Judged In Vars scope G) (here : s q ≡ own) where
+  module _ (met : List Free) (mets : (x : Free) → stands_among met x ≡ true → Unknown_met In x) (s : ℕ → Size) (scope : Scope) (G : Context) (J : Judged In Vars scope G) (here : s q ≡ own) where
     abbrev many : ℕ
     many = length (chosen N types home K places lo at hi q p plain In E l2 l3 own own_is own_stands)
 
@@ -185,13 +228,45 @@ module _ (N : Names) (types : Sub) (home : ℕ → ℕ) (K : Kinds) (places : Ki
     any_dim : (j : ℕ) (d : Dim) → Scoped (May met) j d → Unit {0}
     any_dim j d h = tt
 
-    pub tells : (t : Size) → Each (Scoped (May met)) 0 t → Each_hole Vars t → s at ≡ t → Telling N types s home no_pattern q at many (bound place own) (bound place t) G
-    tells t h v e = λ d1 d2 low.
-        let u = unbound place (λ i. i < many) t 0 (each_as (Scoped (May met)) (λ i d. Unit {0}) any_dim t 0 h) low in (
-          subst (λ w. Each (Scoped (Tells_size N types s home q G)) 0 w) (sym e) (each_as (λ j d. Scoped (May met) j d × ((x : Free) → d ≡ At x → (m : ℕ) → place x ≡ Some m → m < many)) (Scoped (Tells_size N types s home q G)) both t 0 (each_both (Scoped (May met)) (λ j d. (x : Free) → d ≡ At x → (m : ℕ) → place x ≡ Some m → m < many) t 0 h u)),
-          subst (λ w. Each_hole (Tells_type N types s home q G) w) (sym e) (hole_as Vars (Tells_type N types s home q G) (λ w o. inr (J.finds_types w o)) t v),
-        )
-      where
-        both : (j : ℕ) (d : Dim) → Scoped (May met) j d × ((x : Free) → d ≡ At x → (m : ℕ) → place x ≡ Some m → m < many) → Scoped (Tells_size N types s home q G) j d
-        both j (At x) o = tells_one x o.0 (o.1 x refl)
-        both j (Bound k i) o = o.0
+    -- of the body's size, which leaves the function by a renaming
+    module _ (ρ : Free → Free) (leaves : (x : Free) → ((j : ℕ) × (ρ x ≡ Unknown lo j)) ⊎ ((ρ x ≡ x) × No_part x)) (u : Size) (met_is : met ≡ sizes_in (is_met lo hi) (renamed ρ u)) where
+      abbrev Listed : ℕ → Dim → Type 0
+      Listed j d = (x : Free) → d ≡ At x → is_met lo hi x ≡ true → stands_among met x ≡ true
+
+      abbrev Low : ℕ → Dim → Type 0
+      Low j d = (x : Free) → d ≡ At x → (m : ℕ) → place x ≡ Some m → m < many
+
+      tells_left : (x : Free) → With_met Entered_in at hi x → (is_met lo hi (ρ x) ≡ true → stands_among met (ρ x) ≡ true) → ((m : ℕ) → place (ρ x) ≡ Some m → m < many) → Tells_size N types s home q G x
+      tells_left x o listed low = by_left (leaves x)
+        where
+          by_size : With_met Entered_in at hi x → ρ x ≡ x → No_part x → Tells_size N types s home q G x
+          by_size (inl i) e bare = tells_one x (entered_may met x i bare) (λ m z. low m (ap place e ∙ z))
+          by_size (inr i) e bare = tells_one x (by_met met x (met_wider at hi lo hi (omega (arith, l0, l2)) (omega arith) x i) (λ z. subst (λ y. stands_among met y ≡ true) e (listed (ap (is_met lo hi) e ∙ z)))) (λ m z. low m (ap place e ∙ z))
+
+          by_left : ((j : ℕ) × (ρ x ≡ Unknown lo j)) ⊎ ((ρ x ≡ x) × No_part x) → Tells_size N types s home q G x
+          by_left (inl (j, e)) =
+              let y = listed (ap (is_met lo hi) e ∙ is_met_here lo j (omega arith) (omega (arith, l0, l2, l3))) in
+              let w = frame_met N types home K places lo at hi q p plain In E l2 l3 own own_is own_stands met mets (ρ x) y in
+              absurd (let z = low (suc many + w.0) w.1 in omega (arith, z))
+          by_left (inr (e, bare)) = by_size o e bare
+
+      pub tells : Each (Scoped (With_met Entered_in at hi)) 0 u → Each_hole Vars u → s at ≡ u → Telling N types s home no_pattern q at many (bound place own) (bound place (renamed ρ u)) G
+      tells h v e = λ d1 d2 low. (
+        subst (λ w. Each (Scoped (Tells_size N types s home q G)) 0 w) (sym e) (each_as (λ j d. Scoped (With_met Entered_in at hi) j d × (Listed j (renaming ρ j d) × Low j (renaming ρ j d))) (Scoped (Tells_size N types s home q G)) one_told u 0
+            (each_both (Scoped (With_met Entered_in at hi)) (λ j d. Listed j (renaming ρ j d) × Low j (renaming ρ j d)) u 0 h
+            (each_both (λ j d. Listed j (renaming ρ j d)) (λ j d. Low j (renaming ρ j d)) u 0 (each_back (renaming ρ) Listed u 0 listed_all) (each_back (renaming ρ) Low u 0 (low_all low))))),
+        subst (λ w. Each_hole (Tells_type N types s home q G) w) (sym e) (hole_as Vars (Tells_type N types s home q G) (λ w o. inr (J.finds_types w o)) u v),
+      )
+        where
+          listed_all : Each Listed 0 (renamed ρ u)
+          listed_all = subst (λ ms. Each (λ j d. (x : Free) → d ≡ At x → is_met lo hi x ≡ true → stands_among ms x ≡ true) 0 (renamed ρ u)) (sym met_is) (sizes_listed (is_met lo hi) (renamed ρ u))
+
+          any_dim : (j : ℕ) (d : Dim) → Listed j d → Unit {0}
+          any_dim j d h = tt
+
+          low_all : Each (Of_positions (λ i. i < many)) 1 (bound place (renamed ρ u)) → Each Low 0 (renamed ρ u)
+          low_all low = unbound place (λ i. i < many) (renamed ρ u) 0 (each_as Listed (λ i d. Unit {0}) any_dim (renamed ρ u) 0 listed_all) low
+
+          one_told : (j : ℕ) (d : Dim) → Scoped (With_met Entered_in at hi) j d × (Listed j (renaming ρ j d) × Low j (renaming ρ j d)) → Scoped (Tells_size N types s home q G) j d
+          one_told j (At x) o = tells_left x o.0 (o.1.0 (ρ x) refl) (o.1.1 (ρ x) refl)
+          one_told j (Bound k i) o = o.0

@@ -35,7 +35,7 @@ among_found (x ∷ es) k d e = by_first (among_found es (suc k) d) (is_free x d)
     by_first go true q z = (k, ap (λ c. cond c (Some k) (position_from (suc k) es d)) q)
     by_first go false q z = let r = go z in (r.0, ap (λ c. cond c (Some k) (position_from (suc k) es d)) q ∙ r.1)
 
-among_nth : (es : List Free) (j : ℕ) → j < length es → stands_among es (nth es j) ≡ true
+pub among_nth : (es : List Free) (j : ℕ) → j < length es → stands_among es (nth es j) ≡ true
 unfolding nth
 among_nth [] j l = absurd (omega (arith, l))
 among_nth (x ∷ es) zero l = or_first (is_free x x) (stands_among es x) (same_free x)

@@ -1,12 +1,12 @@
 -- What is proved of each term: what its sized type says, which nodes are noted, and that they meet the rules.
-use Rattle.std.proofs.Common.{◌≡◌, ◌⊎◌, ℕ, zero, suc, ◌<◌, ◌≤◌, false, cond, Option, None, Ok, Err, refl, sym, ap, ◌∙◌, subst, arith, inl, inr, eq-eqb}
+use Rattle.std.proofs.Common.{◌≡◌, ◌⊎◌, ℕ, zero, suc, ◌<◌, ◌≤◌, [], ◌∷◌, false, cond, Option, None, Ok, Err, refl, sym, ap, ◌∙◌, subst, arith, inl, inr, eq-eqb}
 use Rattle.std.proofs.lemmas.Bool.{ne_eqb}
 use Rattle.fut_flat.specs.Erased.{FlatTerm}
-use Rattle.fut_types.specs.Types.{Sub}
+use Rattle.fut_types.specs.Types.{Ty, fun_ty, Sub}
 use Rattle.fut_typing.specs.Names.{Names}
 use Rattle.sized_types.specs.Sizes.{Free, Const, Name, Own, Unknown, Slot, Dim, At, Bound, Variable, Inferred, Size, Hole, erased}
 use Rattle.fut_sizes.specs.Agreeing.{Refusal, Answer, then_do}
-use Rattle.fut_sizes.specs.Applications.{Want, Met, Part, Waiting, whole}
+use Rattle.fut_sizes.specs.Applications.{Want, Met, Argument, Part, Applied, Waiting, whole}
 use Rattle.fut_sizes.specs.Functions.{is_slot}
 use Rattle.fut_sizes.specs.Matching.{Found, nothing_found}
 use Rattle.fut_sizes.specs.Rules.{Inside, Outside, Away, Sized}
@@ -15,7 +15,7 @@ use Rattle.fut_sizes.specs.Scoping.{Context}
 use Rattle.fut_sizes.specs.Sizing.{finished}
 use Rattle.fut_sizes.specs.Steps.{State, Done, Step, ask, at_node}
 use Rattle.fut_sizes.specs.Suiting.{Each, Scoped}
-use Rattle.sizes_meet_rules.specs.Known.{Says, Judged, Elsewhere}
+use Rattle.sizes_meet_rules.specs.Known.{Says, Is_const, Judged, Elsewhere}
 use Rattle.sizes_meet_rules.proofs.Replacing.{each_as, hole_as}
 use Rattle.sizes_meet_rules.proofs.Settling.{Is_settled, Any_variable, Settled, noted, whole_finished}
 
@@ -51,10 +51,10 @@ asked r s d e = by_answer r e
     by_answer (Ok a) e = let z = same_ok e in record { answer = ap (λ (x : Done _). Ok x.result) z; state = ap (λ (x : Done _). x.state) (sym z) }
     by_answer (Err r) e = refused_ok e
 
-pub at_itself : (n : ℕ) (t : Size) (f : ℕ → Size) → at_node n t f n ≡ t
+pub at_itself : {A : Type 0} (n : ℕ) (t : A) (f : ℕ → A) → at_node n t f n ≡ t
 at_itself n t f = ap (λ b. cond b t (f n)) (eq-eqb n n refl)
 
-pub at_another : (n m : ℕ) (t : Size) (f : ℕ → Size) → (n ≡ m → ⊥) → at_node n t f m ≡ f m
+pub at_another : {A : Type 0} (n m : ℕ) (t : A) (f : ℕ → A) → (n ≡ m → ⊥) → at_node n t f m ≡ f m
 at_another n m t f ne = ap (λ b. cond b t (f m)) (ne_eqb n m ne)
 
 pub order : (m n : ℕ) → (m < n) ⊎ (n ≤ m)
@@ -127,6 +127,10 @@ module _ (N : Names) (types : Sub) (home : ℕ → ℕ) where
   pub elsewhere_narrower : (lo hi lo' hi' : ℕ) (In : Free → Type 0) → lo ≤ lo' → hi' ≤ hi → Elsewhere N types home lo hi In → Elsewhere N types home lo' hi' In
   elsewhere_narrower lo hi lo' hi' In l l' E = record { no_slot = E.no_slot; outside = λ d i o. E.outside d i (inside_wider lo' hi' lo hi l l' d o) }
 
+  pub met_settled : (In : Free → Type 0) (from to lo hi : ℕ) → Elsewhere N types home from to In → (d : Free) → With_met In lo hi d → is_slot d ≡ false
+  met_settled In from to lo hi E d (inl i) = E.no_slot d i
+  met_settled In from to lo hi E d (inr i) = met_no_slot lo hi d i
+
   -- what says only these is away from the nodes where none of these is made
   pub away_of : (In : Free → Type 0) (Vars : Variable → Type 0) (s : ℕ → Size) (lo hi : ℕ) (t : Size) → ((d : Free) → In d → In_nodes lo hi d → ⊥) → Says In Vars t → Away N types s home lo hi t
   away_of In Vars s lo hi t o h = each_scoped In (λ d. Outside N types s home lo hi d) o t 0 h.sizes
@@ -137,6 +141,7 @@ module _ (N : Names) (types : Sub) (home : ℕ → ℕ) where
       pub says : Says (With_met In lo hi) Vars t
       pub typed : erased t ≡ types lo
       pub kept : (n : ℕ) → (n < lo) ⊎ (hi ≤ n) → after.nodes n ≡ st.nodes n
+      pub dropped : (n : ℕ) → (n < lo) ⊎ (hi ≤ n) → after.dropped n ≡ st.dropped n
       pub rules : (s : ℕ → Size) (G : Context) → Judged In Vars scope G → s lo ≡ t → ((n : ℕ) → lo < n → n < hi → s n ≡ after.nodes n) → Sized N types s home e lo G
 
     -- and one whose node is
@@ -145,6 +150,7 @@ module _ (N : Names) (types : Sub) (home : ℕ → ℕ) where
       pub typed : erased t ≡ types lo
       pub here : after.nodes lo ≡ t
       pub kept : (n : ℕ) → (n < lo) ⊎ (hi ≤ n) → after.nodes n ≡ st.nodes n
+      pub dropped : (n : ℕ) → (n < lo) ⊎ (hi ≤ n) → after.dropped n ≡ st.dropped n
       pub rules : (s : ℕ → Size) (G : Context) → Judged In Vars scope G → ((n : ℕ) → lo ≤ n → n < hi → s n ≡ after.nodes n) → Sized N types s home e lo G
 
     pub record Whole_meets (e : FlatTerm) (lo hi : ℕ) (st : State) (part : Part) (after : State) : Type 0 where
@@ -156,17 +162,41 @@ module _ (N : Names) (types : Sub) (home : ℕ → ℕ) where
       pub waiting : Option Want → Found → Step Met
       pub is_waiting : part ≡ Waiting waiting
       pub unchanged : after ≡ st
+      pub of_function : (p : Ty) × ((r : Ty) × (types lo ≡ fun_ty p r))
+      pub known_sizes : (before : State) (m : Done Met) → waiting None nothing_found before ≡ Ok m → Each (Scoped (λ d. In d ⊎ Is_const d)) 0 m.result.size
       pub by_itself : (before : State) (m : Done Met) → waiting None nothing_found before ≡ Ok m → Meets e lo hi before m.result.size m.state
 
-    abbrev pub Part_meets : FlatTerm → ℕ → ℕ → State → Part → State → Type 0
-    Part_meets e lo hi st part after = Whole_meets e lo hi st part after ⊎ Waits e lo hi st part after
+    -- a function whose argument waits to be matched
+    pub record Is_applied (e : FlatTerm) (lo hi : ℕ) (st : State) (part : Part) (after : State) : Type 0 where
+      pub function : Size
+      pub argument : Argument
+      pub is_applied : part ≡ Applied function false (argument ∷ [])
+      pub by_itself : (u : Done Size) → finished N types lo part after ≡ Ok u → Meets e lo hi st u.result u.state
 
-    noted_meets : (e : FlatTerm) (lo hi : ℕ) (st : State) (t : Size) (after : State) → lo < hi → Inner e lo hi st t after → Meets e lo hi st t (noted lo t after).state
+    abbrev pub Part_meets : FlatTerm → ℕ → ℕ → State → Part → State → Type 0
+    Part_meets e lo hi st part after = Whole_meets e lo hi st part after ⊎ (Waits e lo hi st part after ⊎ Is_applied e lo hi st part after)
+
+    -- what is said of a noted term, where its node is left out
+    pub inner_of : (e : FlatTerm) (lo hi : ℕ) (st : State) (t : Size) (after : State) → Meets e lo hi st t after → Inner e lo hi st t after
+    inner_of e lo hi st t after M = record {
+      says = M.says;
+      typed = M.typed;
+      kept = M.kept;
+      dropped = M.dropped;
+      rules = λ s G J h a. M.rules s G J (λ n x y. by_place s n (order lo n) h a y x);
+    }
+      where
+        by_place : (s : ℕ → Size) (n : ℕ) → (lo < n) ⊎ (n ≤ lo) → s lo ≡ t → ((n : ℕ) → lo < n → n < hi → s n ≡ after.nodes n) → n < hi → lo ≤ n → s n ≡ after.nodes n
+        by_place s n (inl x) h a y z = a n x y
+        by_place s n (inr x) h a y z = subst (λ k. s k ≡ after.nodes k) (let q : lo ≡ n = omega (arith, x, z) in q) (h ∙ sym M.here)
+
+    pub noted_meets : (e : FlatTerm) (lo hi : ℕ) (st : State) (t : Size) (after : State) → lo < hi → Inner e lo hi st t after → Meets e lo hi st t (noted lo t after).state
     noted_meets e lo hi st t after l I = record {
       says = I.says;
       typed = I.typed;
       here = at_itself lo t after.nodes;
       kept = λ n o. at_another lo n t after.nodes (λ q. apart n o q) ∙ I.kept n o;
+      dropped = I.dropped;
       rules = λ s G J a. I.rules s G J (a lo (omega arith) l ∙ at_itself lo t after.nodes) (λ n x y. a n (omega (arith, x)) y ∙ at_another lo n t after.nodes (λ q. omega (arith, q, x)));
     }
       where
@@ -178,13 +208,10 @@ module _ (N : Names) (types : Sub) (home : ℕ → ℕ) where
     pub finished_meets : (e : FlatTerm) (lo hi : ℕ) (st : State) (part : Part) (after : State) (u : Done Size) → lo < hi → Elsewhere N types home lo hi In → Part_meets e lo hi st part after → finished N types lo part after ≡ Ok u → Meets e lo hi st u.result u.state
     finished_meets e lo hi st part after u l E (inl W) q = subst (λ (d : Done Size). Meets e lo hi st d.result d.state) (same_ok now) (noted_meets e lo hi st W.size after l W.inner)
       where
-        no_slot : (d : Free) → With_met In lo hi d → is_slot d ≡ false
-        no_slot d (inl i) = E.no_slot d i
-        no_slot d (inr i) = met_no_slot lo hi d i
-
         now : ◌≡◌ {A = Answer (Done Size)} (Ok (noted lo W.size after)) (Ok u)
-        now = sym (whole_finished N types lo W.size after (says_settled (With_met In lo hi) Vars W.size no_slot W.inner.says)) ∙ ap (λ p. finished N types lo p after) (sym W.is_whole) ∙ q
-    finished_meets e lo hi st part after u l E (inr W) q = subst (λ (d : Done Size). Meets e lo hi st d.result d.state) (same_ok ran.rest) again
+        now = sym (whole_finished N types lo W.size after (says_settled (With_met In lo hi) Vars W.size (met_settled In lo hi lo hi E) W.inner.says)) ∙ ap (λ p. finished N types lo p after) (sym W.is_whole) ∙ q
+    finished_meets e lo hi st part after u l E (inr (inr W)) q = W.by_itself u q
+    finished_meets e lo hi st part after u l E (inr (inl W)) q = subst (λ (d : Done Size). Meets e lo hi st d.result d.state) (same_ok ran.rest) again
       where
         waited : finished N types lo (Waiting W.waiting) st ≡ Ok u
         waited = ap (λ p. finished N types lo p st) (sym W.is_waiting) ∙ ap (finished N types lo part) (sym W.unchanged) ∙ q
@@ -196,13 +223,11 @@ module _ (N : Names) (types : Sub) (home : ℕ → ℕ) where
         M = W.by_itself st ran.first ran.done
 
         again : Meets e lo hi st ran.first.result.size (noted lo ran.first.result.size ran.first.state).state
-        again = noted_meets e lo hi st ran.first.result.size ran.first.state l (record {
-          says = M.says;
-          typed = M.typed;
-          kept = M.kept;
-          rules = λ s G J h a. M.rules s G J (λ n x y. by_place s n (order lo n) h a y x);
-        })
-          where
-            by_place : (s : ℕ → Size) (n : ℕ) → (lo < n) ⊎ (n ≤ lo) → s lo ≡ ran.first.result.size → ((n : ℕ) → lo < n → n < hi → s n ≡ ran.first.state.nodes n) → n < hi → lo ≤ n → s n ≡ ran.first.state.nodes n
-            by_place s n (inl x) h a y z = a n x y
-            by_place s n (inr x) h a y z = subst (λ k. s k ≡ ran.first.state.nodes k) (let q : lo ≡ n = omega (arith, x, z) in q) (h ∙ sym M.here)
+        again = noted_meets e lo hi st ran.first.result.size ran.first.state l (inner_of e lo hi st ran.first.result.size ran.first.state M)
+
+    -- a function that waits says no size that is met in it
+    pub function_knows : (e : FlatTerm) (lo hi : ℕ) (st : State) (part : Part) (after : State) (u : Done Size) → Waits e lo hi st part after → finished N types lo part after ≡ Ok u → Each (Scoped (λ d. In d ⊎ Is_const d)) 0 u.result
+    function_knows e lo hi st part after u W q = subst (λ (d : Done Size). Each (Scoped (λ d. In d ⊎ Is_const d)) 0 d.result) (same_ok ran.rest) (W.known_sizes st ran.first ran.done)
+      where
+        ran : Then_ok (W.waiting None nothing_found st) (λ m. Ok (noted lo m.result.size m.state)) u
+        ran = then_ok (W.waiting None nothing_found st) (ap (λ p. finished N types lo p st) (sym W.is_waiting) ∙ ap (finished N types lo part) (sym W.unchanged) ∙ q)

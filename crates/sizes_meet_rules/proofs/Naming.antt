@@ -1,36 +1,53 @@
--- What is known of the names in scope where a pattern that is a name or none took a value.
-use Rattle.std.proofs.Common.{◌≡◌, ◌⊎◌, ℕ, Bool, true, false, ◌||◌, cond, nat_eq, Option, Some, None, refl, sym, ap, ◌∙◌, subst, arith, inl, inr, eq-eqb}
+-- What is known of the names in scope where a pattern took a value.
+use Rattle.std.proofs.Common.{◌≡◌, ◌⊎◌, ℕ, ◌+◌, ◌<◌, ◌≤◌, List, [], ◌∷◌, ◌++◌, Bool, true, false, ◌||◌, cond, nat_eq, Option, Some, None, refl, sym, ap, ◌∙◌, subst, arith, inl, inr, eq-eqb}
 use Rattle.std.proofs.lemmas.Bool.{ne_eqb, eqb-false}
 use native.Mathlib.Decide.{ℕ_discrete}
-use Rattle.fut_flat.specs.Terms.{Bound_pattern, Wild_pattern, Tuple_pattern, Record_pattern, Typed_pattern}
+use Rattle.fut_scalar.specs.declared.place.BindId.{BindId}
+use Rattle.fut_flat.specs.declared.prim.Ref.{Ref}
+use Rattle.fut_flat.specs.Numbers.{pattern_numbers, all_pattern_numbers}
+use Rattle.fut_flat.specs.Terms.{Bound_pattern, Wild_pattern, Tuple_pattern, Record_pattern, Typed_pattern, Patterns, no_pattern, pattern_and}
 use Rattle.fut_flat.specs.Erased.{FlatPattern}
 use Rattle.fut_types.specs.declared.Kind.{Kind}
-use Rattle.fut_types.specs.Types.{Ty, Sub, Kinds}
-use Rattle.fut_typing.specs.Names.{Names}
+use Rattle.fut_types.specs.Types.{Ty, more, Sub, Kinds}
+use Rattle.fut_typing.specs.Names.{Names, Parts_named}
 use Rattle.fut_typing.specs.Scopes.{Uses, Scope as TypeScope, the_one}
-use Rattle.fut_typing.specs.Patterns.{with_pattern as typed_with}
-use Rattle.sized_types.specs.Sizes.{Free, Const, Name, Own, Unknown, Slot, At, Bound, Variable, Size, Hole, Open, Level, Built, Fun, Sizes, no_size, size_and, erased, is_free, is_dim}
+use Rattle.fut_typing.specs.Patterns.{pattern_types, Pattern_typed, Patterns_typed, with_pattern as typed_with, with_patterns as all_typed_with}
+use Rattle.sized_types.specs.Sizes.{Free, Const, Name, Own, Unknown, Slot, At, Bound, Variable, Size, Hole, Open, Level, Built, Fun, Sizes, no_size, size_and, erased, all_erased, is_free, is_dim}
 use Rattle.sized_types.specs.Standing.{stands, some_stands, has_hole, stands_told, has_told}
-use Rattle.fut_sizes.specs.Scopes.{Known, Scope, with_name}
-use Rattle.fut_sizes.specs.Scoping.{Context, is_name, is_number, with_pattern}
+use Rattle.fut_sizes.specs.Agreeing.{is_among}
+use Rattle.fut_sizes.specs.Functions.{is_slot, value_name}
+use Rattle.fut_sizes.specs.Rules.{Each_hole, Each_holes}
+use Rattle.fut_sizes.specs.Scopes.{Known, Scope, with_name, names, all_names}
+use Rattle.fut_sizes.specs.Scoping.{Context, is_number, with_entered, with_names, with_all_names, with_pattern}
 use Rattle.fut_sizes.specs.Suiting.{Each, Each_all, Scoped, Data, All_data}
-use Rattle.sizes_meet_rules.specs.Known.{Says, Known_name, Known_names, Is_const, Judged}
-use Rattle.sizes_meet_rules.specs.Plain.{Plain_pattern}
+use Rattle.sizes_meet_rules.specs.Known.{Formed, All_formed, Says, Known_name, Known_names, Is_const, Judged}
+use Rattle.sizes_meet_rules.specs.Plain.{Plain_pattern, Plain_parts}
 use Rattle.sizes_meet_rules.proofs.Replacing.{same_free, hole_as}
 use Rattle.sizes_meet_rules.proofs.Meeting.{each_scoped}
+use Rattle.sizes_meet_rules.proofs.Operating.{All_say, first_says, rest_say, part_of_says}
+use Rattle.fut_ast.specs.Sorts.{Text}
+use Rattle.fut_sizes.specs.WrittenSizes.{part_of}
+use Rattle.sizes_meet_rules.proofs.Taking.{parts_same, Of_part, If_part, part_bound, of_part, both_parts, Has_parts, All_have_parts, Fields_have, Field_has, bound_scope, parts_bound, fields_bound, field_bound, Nodes, All_nodes, Fields_nodes, first_node, At_home, among_first, among_later}
 
--- the value of a name may be a size
-abbrev pub Named_by : FlatPattern → Size → Free → Type 0
-Named_by (Bound_pattern x) t d = (d ≡ Name x.0) × (is_number t ≡ true)
-Named_by p t d = ⊥
+-- a name of the pattern whose part is a number may be a size
+abbrev mutual
+  pub Named_by : Names → FlatPattern → Size → Free → Type 0
+  Named_by N (Bound_pattern x) t d = (d ≡ Name x.0) × (is_number t ≡ true)
+  Named_by N (Tuple_pattern ps) (Built h ts) d = Part_named N ps ts d
+  Named_by N (Record_pattern fs ps) t d = Fields_named N fs ps t d
+  Named_by N (Typed_pattern p e) t d = Named_by N p t d
+  Named_by N p t d = ⊥
 
-abbrev pub Is_bound : FlatPattern → ℕ → Type 0
-Is_bound (Bound_pattern x) b = b ≡ x.0
-Is_bound p b = ⊥
+  pub Part_named : Names → Patterns Ref BindId → Sizes → Free → Type 0
+  Part_named N (pattern_and p ps) (size_and t ts) d = Named_by N p t d ⊎ Part_named N ps ts d
+  Part_named N ps ts d = ⊥
 
-abbrev pub bound_scope : FlatPattern → Size → Scope → Scope
-bound_scope (Bound_pattern x) t scope = with_name x.0 t scope
-bound_scope p t scope = scope
+  pub Fields_named : Names → List Text → Patterns Ref BindId → Size → Free → Type 0
+  Fields_named N (f ∷ fs) (pattern_and p ps) t d = Of_part (part_of N f t) (λ u. Named_by N p u d) ⊎ Fields_named N fs ps t d
+  Fields_named N fs ps t d = ⊥
+
+abbrev pub Field_named : Names → FlatPattern → Option Size → Free → Type 0
+Field_named N p o d = Of_part o (λ u. Named_by N p u d)
 
 pub or_first : (a b : Bool) → a ≡ true → a || b ≡ true
 or_first true b e = refl
@@ -48,9 +65,9 @@ pub known_same : (t u : Size) → ◌≡◌ {A = Option Known} (Some (record { s
 unfolding size_of_known
 known_same t u e = ap (size_of_known t) e
 
--- a size that stands in a value's type, and is the name of no pattern at this node
-abbrev pub Stands_there : (ℕ → ℕ) → ℕ → Size → Free → Type 0
-Stands_there home q t d = (stands t d ≡ true) × ((b : ℕ) → d ≡ Name b → home b ≡ q → ⊥)
+-- a size that stands in a value's type, and is no name that is at home at these nodes
+abbrev pub Stands_there : (ℕ → ℕ) → ℕ → ℕ → Size → Free → Type 0
+Stands_there home q hi t d = (stands t d ≡ true) × ((b : ℕ) → d ≡ Name b → (q ≤ home b) × (home b < hi) → ⊥)
 
 -- all sizes of data stand in it
 module _ (Q : Free → Type 0) where
@@ -69,9 +86,88 @@ module _ (Q : Free → Type 0) where
     all_stand P no_size d h w = tt
     all_stand P (size_and t ts) d h w = (each_stands P t d.0 h.0 (λ x e. w x (or_first (stands t x) (some_stands ts x) e)), all_stand P ts d.1 h.1 (λ x e. w x (or_later (stands t x) (some_stands ts x) e)))
 
-module _ (N : Names) (types : Sub) (K : Kinds) (places : Kind) (In In' : Free → Type 0) (Vars Vars' : Variable → Type 0) (wider : (d : Free) → In d → In' d) (more_types : (v : Variable) → Vars v → Vars' v) where
-  still_known : (scope : Scope) (b : ℕ) (u : Ty) → Known_name In Vars scope b u → Known_name In' Vars' scope b u
-  still_known scope b u k = record {
+-- ---- where the names of a pattern are
+
+module _ (N : Names) where
+  mutual
+    pub named_among : (p : FlatPattern) (t : Size) (b : ℕ) → Named_by N p t (Name b) → is_among (names p) b ≡ true
+    named_among (Bound_pattern x) t b h = ap (λ c. cond c true false) (eq-eqb b x.0 (let z : Name b ≡ Name x.0 = h.0 in cc))
+    named_among Wild_pattern t b h = absurd h
+    named_among (Tuple_pattern ps) (Built g ts) b h = part_among ps ts b h
+    named_among (Tuple_pattern ps) (Hole v) b h = absurd h
+    named_among (Tuple_pattern ps) (Open n v u) b h = absurd h
+    named_among (Tuple_pattern ps) (Level d t) b h = absurd h
+    named_among (Tuple_pattern ps) (Fun k p r) b h = absurd h
+    named_among (Record_pattern fs ps) t b h = fields_among fs ps t b h
+    named_among (Typed_pattern p e) t b h = named_among p t b h
+
+    part_among : (ps : Patterns Ref BindId) (ts : Sizes) (b : ℕ) → Part_named N ps ts (Name b) → is_among (all_names ps) b ≡ true
+    part_among no_pattern ts b h = absurd h
+    part_among (pattern_and p ps) no_size b h = absurd h
+    part_among (pattern_and p ps) (size_and t ts) b (inl h) = among_first (names p) (all_names ps) b (named_among p t b h)
+    part_among (pattern_and p ps) (size_and t ts) b (inr h) = among_later (names p) (all_names ps) b (part_among ps ts b h)
+
+    fields_among : (ls : List Text) (ps : Patterns Ref BindId) (t : Size) (b : ℕ) → Fields_named N ls ps t (Name b) → is_among (all_names ps) b ≡ true
+    fields_among [] ps t b h = absurd h
+    fields_among (l ∷ ls) no_pattern t b h = absurd h
+    fields_among (l ∷ ls) (pattern_and p ps) t b (inl h) = among_first (names p) (all_names ps) b (of_part (part_of N l t) (λ u. Named_by N p u (Name b)) (is_among (names p) b ≡ true) (λ u k. named_among p u b k) h)
+    fields_among (l ∷ ls) (pattern_and p ps) t b (inr h) = among_later (names p) (all_names ps) b (fields_among ls ps t b h)
+
+pub none_among : (xs ys : List ℕ) (b : ℕ) → is_among xs b ≡ false → is_among ys b ≡ false → is_among (xs ++ ys) b ≡ false
+none_among [] ys b e f = f
+none_among (x ∷ xs) ys b e f = by_name (nat_eq b x) (none_among xs ys b) e
+  where
+    by_name : (c : Bool) → (is_among xs b ≡ false → is_among ys b ≡ false → is_among (xs ++ ys) b ≡ false) → cond c true (is_among xs b) ≡ false → cond c true (is_among (xs ++ ys) b) ≡ false
+    by_name true go e = e
+    by_name false go e = go e f
+
+module _ (types : Sub) (home : ℕ → ℕ) (K : Kinds) (places : Kind) where
+  -- the name that it is, and where that is at home
+  abbrev pub Name_there : ℕ → ℕ → Free → Type 0
+  Name_there q hi d = (b : ℕ) × (d ≡ Name b) × At_home types home K places q hi b
+
+  there_wider : (q hi q' hi' : ℕ) → q' ≤ q → hi ≤ hi' → (d : Free) → Name_there q hi d → Name_there q' hi' d
+  there_wider q hi q' hi' l l' d (b, e, (x, y)) = (b, e, (omega (arith, x, l), omega (arith, y, l')))
+
+  module _ (N : Names) where
+    mutual
+      pub named_there : (p : FlatPattern) (q : ℕ) → Plain_pattern types home K places p q → (t : Size) (d : Free) → Named_by N p t d → Name_there q (q + pattern_numbers p) d
+      named_there (Bound_pattern x) q h t d n = (x.0, n.0, (omega (arith, h), omega (arith, h)))
+      named_there Wild_pattern q h t d n = absurd n
+      named_there (Tuple_pattern ps) q h (Built g ts) d n = there_wider (1 + q) (1 + q + all_pattern_numbers ps) q (q + (1 + all_pattern_numbers ps)) (omega arith) (omega arith) d (part_there ps (1 + q) h ts d n)
+      named_there (Tuple_pattern ps) q h (Hole v) d n = absurd n
+      named_there (Tuple_pattern ps) q h (Open m v u) d n = absurd n
+      named_there (Tuple_pattern ps) q h (Level x t) d n = absurd n
+      named_there (Tuple_pattern ps) q h (Fun k p r) d n = absurd n
+      named_there (Record_pattern fs ps) q h t d n = there_wider (1 + q) (1 + q + all_pattern_numbers ps) q (q + (1 + all_pattern_numbers ps)) (omega arith) (omega arith) d (fields_there fs ps (1 + q) h t d n)
+      named_there (Typed_pattern p e) q h t d n = named_there p q h.1 t d n
+
+      part_there : (ps : Patterns Ref BindId) (q : ℕ) → Plain_parts types home K places ps q → (ts : Sizes) (d : Free) → Part_named N ps ts d → Name_there q (q + all_pattern_numbers ps) d
+      part_there no_pattern q h ts d n = absurd n
+      part_there (pattern_and p ps) q h no_size d n = absurd n
+      part_there (pattern_and p ps) q h (size_and t ts) d (inl n) = there_wider q (q + pattern_numbers p) q (q + (pattern_numbers p + all_pattern_numbers ps)) (omega arith) (omega arith) d (named_there p q h.0 t d n)
+      part_there (pattern_and p ps) q h (size_and t ts) d (inr n) = there_wider (q + pattern_numbers p) (q + pattern_numbers p + all_pattern_numbers ps) q (q + (pattern_numbers p + all_pattern_numbers ps)) (omega arith) (omega arith) d (part_there ps (q + pattern_numbers p) h.1 ts d n)
+
+      fields_there : (ls : List Text) (ps : Patterns Ref BindId) (q : ℕ) → Plain_parts types home K places ps q → (t : Size) (d : Free) → Fields_named N ls ps t d → Name_there q (q + all_pattern_numbers ps) d
+      fields_there [] ps q h t d n = absurd n
+      fields_there (l ∷ ls) no_pattern q h t d n = absurd n
+      fields_there (l ∷ ls) (pattern_and p ps) q h t d (inl n) = there_wider q (q + pattern_numbers p) q (q + (pattern_numbers p + all_pattern_numbers ps)) (omega arith) (omega arith) d (of_part (part_of N l t) (λ u. Named_by N p u d) (Name_there q (q + pattern_numbers p) d) (λ u k. named_there p q h.0 u d k) n)
+      fields_there (l ∷ ls) (pattern_and p ps) q h t d (inr n) = there_wider (q + pattern_numbers p) (q + pattern_numbers p + all_pattern_numbers ps) q (q + (pattern_numbers p + all_pattern_numbers ps)) (omega arith) (omega arith) d (fields_there ls ps (q + pattern_numbers p) h.1 t d n)
+
+    pub named_no_slot : (p : FlatPattern) (q : ℕ) → Plain_pattern types home K places p q → (t : Size) (d : Free) → Named_by N p t d → is_slot d ≡ false
+    named_no_slot p q h t d n = ap is_slot (named_there p q h t d n).1
+
+  -- the name that is the value of a parameter is at home there
+  pub value_home : (p : FlatPattern) (q : ℕ) → Plain_pattern types home K places p q → (b : ℕ) → value_name p ≡ Some b → home b ≡ q
+  value_home (Bound_pattern x) q h b e = ap home (let z : Some x.0 ≡ Some b = e in let y : b ≡ x.0 = cc in y) ∙ h
+  value_home Wild_pattern q h b e = absurd (let z : None ≡ Some b = e in cc)
+  value_home (Tuple_pattern ps) q h b e = absurd (let z : None ≡ Some b = e in cc)
+  value_home (Record_pattern fs ps) q h b e = absurd (let z : None ≡ Some b = e in cc)
+  value_home (Typed_pattern p t) q h b e = value_home p q h.1 b e
+
+module _ (N : Names) (types : Sub) (K : Kinds) (places : Kind) (In' : Free → Type 0) (Vars' : Variable → Type 0) where
+  pub known_wider : (In : Free → Type 0) (Vars : Variable → Type 0) → ((d : Free) → In d → In' d) → ((v : Variable) → Vars v → Vars' v) → (scope : Scope) (b : ℕ) (u : Ty) → Known_name In Vars scope b u → Known_name In' Vars' scope b u
+  known_wider In Vars wider more_types scope b u k = record {
     size = k.size;
     known = k.known;
     says = record { sizes = each_scoped In In' wider k.size 0 k.says.sizes; variables = hole_as Vars Vars' more_types k.size k.says.variables; formed = k.says.formed };
@@ -79,89 +175,199 @@ module _ (N : Names) (types : Sub) (K : Kinds) (places : Kind) (In In' : Free �
     number = λ e. wider (Name b) (k.number e);
   }
 
-  pub known_with : (home : ℕ → ℕ) (p : FlatPattern) (q : ℕ) → Plain_pattern types home K places p q → (t : Size) (scope : Scope) (T : TypeScope) → Known_names In Vars scope K types T → Says In' Vars' t → erased t ≡ types q → ((d : Free) → Named_by p t d → In' d)
-      → Known_names In' Vars' (bound_scope p t scope) K types (typed_with the_one p q T)
-  known_with home (Bound_pattern x) q l t scope T k h e i b u = elim (ℕ_discrete b x.0) as (λ d. (elim d as (λ d. Uses) [ yes e ↦ the_one q | no ne ↦ T.uses b ]) K types u → Known_name In' Vars' (with_name x.0 t scope) b u) [
-    | yes y ↦ λ a. record {
-      size = t;
-      known = ap (λ z. cond z (Some (record { size = t; is_general = false })) (scope b)) (eq-eqb x.0 b (sym y));
-      says = h;
-      typed = e ∙ sym a;
-      number = λ z. i (Name b) (ap Name y, z);
-    }
-    | no ne ↦ λ a. moved (ne_eqb x.0 b (λ z. ne (sym z))) (still_known scope b u (k b u a))
-  ]
-    where
-      moved : nat_eq x.0 b ≡ false → Known_name In' Vars' scope b u → Known_name In' Vars' (with_name x.0 t scope) b u
-      moved e k = record { size = k.size; known = ap (λ z. cond z (Some (record { size = t; is_general = false })) (scope b)) e ∙ k.known; says = k.says; typed = k.typed; number = k.number }
-  known_with home Wild_pattern q l t scope T k h e i b u = λ a. still_known scope b u (k b u a)
-  known_with home (Tuple_pattern ps) q l t scope T k h e i b u = absurd l
-  known_with home (Record_pattern fs ps) q l t scope T k h e i b u = absurd l
-  known_with home (Typed_pattern p w) q l t scope T k h e i b u = absurd l
+  module _ (home : ℕ → ℕ) where
+    known_name : (x : BindId) (q : ℕ) (t : Size) (scope : Scope) (T : TypeScope) → Says In' Vars' t → erased t ≡ types q → (is_number t ≡ true → In' (Name x.0)) → Known_names In' Vars' scope K types T → Known_names In' Vars' (with_name x.0 t scope) K types (typed_with the_one (Bound_pattern x) q T)
+    known_name x q t scope T h e i k b u = elim (ℕ_discrete b x.0) as (λ d. (elim d as (λ d. Uses) [ yes e ↦ the_one q | no ne ↦ T.uses b ]) K types u → Known_name In' Vars' (with_name x.0 t scope) b u) [
+      | yes y ↦ λ a. record {
+        size = t;
+        known = ap (λ z. cond z (Some (record { size = t; is_general = false })) (scope b)) (eq-eqb x.0 b (sym y));
+        says = h;
+        typed = e ∙ sym a;
+        number = λ z. subst (λ c. In' (Name c)) (sym y) (i z);
+      }
+      | no ne ↦ λ a. moved (ne_eqb x.0 b (λ z. ne (sym z))) (k b u a)
+    ]
+      where
+        moved : nat_eq x.0 b ≡ false → Known_name In' Vars' scope b u → Known_name In' Vars' (with_name x.0 t scope) b u
+        moved e k = record { size = k.size; known = ap (λ z. cond z (Some (record { size = t; is_general = false })) (scope b)) e ∙ k.known; says = k.says; typed = k.typed; number = k.number }
 
-  -- and the rules know the same
-  pub judged_with : (home : ℕ → ℕ) (p : FlatPattern) (q : ℕ) → Plain_pattern types home K places p q → (s : ℕ → Size) (t : Size) (scope : Scope) (G : Context) → s q ≡ t
-      → ((b : ℕ) → In (Name b) → home b ≡ q → ⊥)
-      → ((d : Free) → In' d → In d ⊎ (Stands_there home q t d ⊎ (Named_by p t d ⊎ Is_const d))) → ((v : Variable) → Vars' v → Vars v ⊎ (has_hole t v ≡ true))
-      → ((b : ℕ) (u : Size) → (Is_bound p b → ⊥) → scope b ≡ Some (record { size = u; is_general = false }) → G.sizes b ≡ Some u)
-      → ((d : Free) → In d → (G.finds d ≡ true) ⊎ Is_const d) → ((v : Variable) → Vars v → G.finds_types v ≡ true)
-      → Judged In' Vars' (bound_scope p t scope) (with_pattern s p q G)
-  judged_with home (Bound_pattern x) q l s t scope G e apart split split_types known finds types_found = record {
-    sizes = λ b u z. by_name b u (nat_eq x.0 b) refl z;
-    finds = λ d i. found d (split d i);
-    finds_types = λ v i. types_here v (split_types v i);
-  }
-    where
-      by_name : (b : ℕ) (u : Size) (c : Bool) → nat_eq x.0 b ≡ c → ◌≡◌ {A = Option Known} (cond c (Some (record { size = t; is_general = false })) (scope b)) (Some (record { size = u; is_general = false }))
-          → cond (nat_eq x.0 b) (Some (s q)) (G.sizes b) ≡ Some u
-      by_name b u true f z = ap (λ c. cond c (Some (s q)) (G.sizes b)) f ∙ ap Some (e ∙ known_same t u z)
-      by_name b u false f z = ap (λ c. cond c (Some (s q)) (G.sizes b)) f ∙ known b u (λ y. eqb-false x.0 b f (sym y)) z
+    mutual
+      unfolding Each Each_all Each_hole Each_holes Formed All_formed erased all_erased
 
-      standing : (d : Free) → stands t d ≡ true → stands (s q) d || (stands_told (s q) d || G.finds d) ≡ true
-      standing d y = or_first (stands (s q) d) (stands_told (s q) d || G.finds d) (ap (λ u. stands u d) e ∙ y)
+      known_pattern : (p : FlatPattern) (q : ℕ) (S : TypeScope) → Plain_pattern types home K places p q → Pattern_typed N places K types p q S → (t : Size) → Has_parts N p t → Says In' Vars' t → erased t ≡ types q → ((d : Free) → Named_by N p t d → In' d) → (scope : Scope) (T : TypeScope) → Known_names In' Vars' scope K types T
+          → Known_names In' Vars' (bound_scope N p t scope) K types (typed_with the_one p q T)
+      known_pattern (Bound_pattern x) q S l y t c h e i scope T k = known_name x q t scope T h e (λ z. i (Name x.0) (refl, z)) k
+      known_pattern Wild_pattern q S l y t c h e i scope T k = k
+      known_pattern (Tuple_pattern ps) q S l y (Built g ts) c h e i scope T k = known_parts ps (1 + q) S l y.0 ts c.1 (record { sizes = h.sizes; variables = h.variables; formed = h.formed.1 }) (parts_same (e ∙ y.1)) i scope T k
+      known_pattern (Tuple_pattern ps) q S l y (Hole v) c h e i scope T k = absurd c
+      known_pattern (Tuple_pattern ps) q S l y (Open n v u) c h e i scope T k = absurd c
+      known_pattern (Tuple_pattern ps) q S l y (Level d t) c h e i scope T k = absurd c
+      known_pattern (Tuple_pattern ps) q S l y (Fun n p r) c h e i scope T k = absurd c
+      known_pattern (Record_pattern fs ps) q S l y t c h e i scope T k = known_fields fs ps (1 + q) S l y.0 (types q) y.1.named t c h e i scope T k
+      known_pattern (Typed_pattern p w) q S l y t c h e i scope T k = known_pattern p q S l.1 y.0 t c.1 h e i scope T k
 
-      before : (d : Free) → G.finds d ≡ true → stands (s q) d || (stands_told (s q) d || G.finds d) ≡ true
-      before d y = or_later (stands (s q) d) (stands_told (s q) d || G.finds d) (or_later (stands_told (s q) d) (G.finds d) y)
+      known_parts : (ps : Patterns Ref BindId) (q : ℕ) (S : TypeScope) → Plain_parts types home K places ps q → Patterns_typed N places K types ps q S → (ts : Sizes) → All_have_parts N ps ts → All_say In' Vars' ts → all_erased ts ≡ pattern_types types ps q → ((d : Free) → Part_named N ps ts d → In' d) → (scope : Scope) (T : TypeScope) → Known_names In' Vars' scope K types T
+          → Known_names In' Vars' (parts_bound N ps ts scope) K types (all_typed_with the_one ps q T)
+      known_parts no_pattern q S l y no_size c h e i scope T k = k
+      known_parts no_pattern q S l y (size_and t ts) c h e i scope T k = absurd c
+      known_parts (pattern_and p ps) q S l y no_size c h e i scope T k = absurd c
+      known_parts (pattern_and p ps) q S l y (size_and t ts) c h e i scope T k =
+          let z : more (erased t) (all_erased ts) ≡ more (types q) (pattern_types types ps (q + pattern_numbers p)) = e in
+          known_parts ps (q + pattern_numbers p) S l.1 y.1 ts c.1 (rest_say In' Vars' t ts h) (let w : all_erased ts ≡ pattern_types types ps (q + pattern_numbers p) = cc in w) (λ d n. i d (inr n)) (bound_scope N p t scope) (typed_with the_one p q T)
+          (known_pattern p q S l.0 y.0 t c.0 (first_says In' Vars' t ts h) (let w : erased t ≡ types q = cc in w) (λ d n. i d (inl n)) scope T k)
 
-      not_named : (d : Free) → ((b : ℕ) → d ≡ Name b → x.0 ≡ b → ⊥) → stands (s q) d || (stands_told (s q) d || G.finds d) ≡ true → cond (is_name x.0 d) (is_number (s q)) (stands (s q) d || (stands_told (s q) d || G.finds d)) ≡ true
-      not_named (Name b) a y = ap (λ c. cond c (is_number (s q)) (stands (s q) (Name b) || (stands_told (s q) (Name b) || G.finds (Name b)))) (ne_eqb x.0 b (λ z. a b refl z)) ∙ y
-      not_named (Const c) a y = y
-      not_named (Own n i) a y = y
-      not_named (Unknown n i) a y = y
-      not_named (Slot i) a y = y
+      known_fields : (ls : List Text) (ps : Patterns Ref BindId) (q : ℕ) (S : TypeScope) → Plain_parts types home K places ps q → Patterns_typed N places K types ps q S → (U : Ty) → Parts_named N ls U (pattern_types types ps q) → (t : Size) → Fields_have N ls ps t → Says In' Vars' t → erased t ≡ U → ((d : Free) → Fields_named N ls ps t d → In' d) → (scope : Scope) (T : TypeScope) → Known_names In' Vars' scope K types T
+          → Known_names In' Vars' (fields_bound N ls ps t scope) K types (all_typed_with the_one ps q T)
+      known_fields [] no_pattern q S l y U g t c h e i scope T k = k
+      known_fields [] (pattern_and p ps) q S l y U g t c h e i scope T k = absurd c
+      known_fields (f ∷ ls) no_pattern q S l y U g t c h e i scope T k = absurd c
+      known_fields (f ∷ ls) (pattern_and p ps) q S l y U g t c h e i scope T k =
+          let P = part_of_says N In' Vars' f t U (types q) h e g.0 in
+          known_fields ls ps (q + pattern_numbers p) S l.1 y.1 U g.1 t c.1 h e (λ d n. i d (inr n)) (field_bound N p (part_of N f t) scope) (typed_with the_one p q T)
+          (subst (λ o. Known_names In' Vars' (field_bound N p o scope) K types (typed_with the_one p q T)) (sym P.is)
+          (known_pattern p q S l.0 y.0 P.part (subst (Field_has N p) P.is c.0) P.says P.typed (λ d n. i d (inl (subst (λ o. Field_named N p o d) (sym P.is) n))) scope T k))
 
-      of_before : (d : Free) → In d → (G.finds d ≡ true) ⊎ Is_const d → ((with_pattern s (Bound_pattern x) q G).finds d ≡ true) ⊎ Is_const d
-      of_before d i (inl y) = inl (not_named d (λ b z w. apart b (subst In z i) (ap home (sym w) ∙ l)) (before d y))
-      of_before d i (inr y) = inr y
+    pub known_with : (In : Free → Type 0) (Vars : Variable → Type 0) → ((d : Free) → In d → In' d) → ((v : Variable) → Vars v → Vars' v) → (p : FlatPattern) (q : ℕ) (S : TypeScope) → Plain_pattern types home K places p q → Pattern_typed N places K types p q S → (t : Size) → Has_parts N p t → (scope : Scope) (T : TypeScope) → Known_names In Vars scope K types T → Says In' Vars' t → erased t ≡ types q → ((d : Free) → Named_by N p t d → In' d)
+        → Known_names In' Vars' (bound_scope N p t scope) K types (typed_with the_one p q T)
+    known_with In Vars wider more_types p q S l y t c scope T k h e i = known_pattern p q S l y t c h e i scope T (λ b u a. known_wider In Vars wider more_types scope b u (k b u a))
 
-      found : (d : Free) → In d ⊎ (Stands_there home q t d ⊎ (Named_by (Bound_pattern x) t d ⊎ Is_const d)) → ((with_pattern s (Bound_pattern x) q G).finds d ≡ true) ⊎ Is_const d
-      found d (inl i) = of_before d i (finds d i)
-      found d (inr (inl y)) = inl (not_named d (λ b z w. y.1 b z (ap home (sym w) ∙ l)) (standing d y.0))
-      found d (inr (inr (inl y))) = inl (ap (λ z. (with_pattern s (Bound_pattern x) q G).finds z) y.0 ∙ ap (λ c. cond c (is_number (s q)) (stands (s q) (Name x.0) || (stands_told (s q) (Name x.0) || G.finds (Name x.0)))) (eq-eqb x.0 x.0 refl) ∙ ap is_number e ∙ y.1)
-      found d (inr (inr (inr y))) = inr y
+    -- ---- and the rules know the same
 
-      types_here : (v : Variable) → Vars v ⊎ (has_hole t v ≡ true) → has_hole (s q) v || (has_told (s q) v || G.finds_types v) ≡ true
-      types_here v (inl i) = or_later (has_hole (s q) v) (has_told (s q) v || G.finds_types v) (or_later (has_told (s q) v) (G.finds_types v) (types_found v i))
-      types_here v (inr y) = or_first (has_hole (s q) v) (has_told (s q) v || G.finds_types v) (ap (λ u. has_hole u v) e ∙ y)
-  judged_with home Wild_pattern q l s t scope G e apart split split_types known finds types_found = record {
-    sizes = λ b u z. known b u (λ y. y) z;
-    finds = λ d i. found d (split d i);
-    finds_types = λ v i. types_here v (split_types v i);
-  }
-    where
-      by_finds : (d : Free) → (G.finds d ≡ true) ⊎ Is_const d → (stands (s q) d || (stands_told (s q) d || G.finds d) ≡ true) ⊎ Is_const d
-      by_finds d (inl y) = inl (or_later (stands (s q) d) (stands_told (s q) d || G.finds d) (or_later (stands_told (s q) d) (G.finds d) y))
-      by_finds d (inr y) = inr y
+    module _ (s : ℕ → Size) where
+      module _ (b : ℕ) (u : Size) where
+        abbrev Gives : Option Known → Type 0
+        Gives o = o ≡ Some (record { size = u; is_general = false })
 
-      found : (d : Free) → In d ⊎ (Stands_there home q t d ⊎ (Named_by Wild_pattern t d ⊎ Is_const d)) → (stands (s q) d || (stands_told (s q) d || G.finds d) ≡ true) ⊎ Is_const d
-      found d (inl i) = by_finds d (finds d i)
-      found d (inr (inl y)) = inl (or_first (stands (s q) d) (stands_told (s q) d || G.finds d) (ap (λ u. stands u d) e ∙ y.0))
-      found d (inr (inr (inl y))) = absurd y
-      found d (inr (inr (inr y))) = inr y
+        field_sizes : (o : Option Size) (P Q : Size → Type 0) (bound : Size → Scope → Scope) (scope : Scope) (X : Type 0) → ((v : Size) → P v → Q v → Gives (bound v scope b) → X) → Of_part o P → If_part o Q → Gives (part_bound o bound scope b) → X
+        field_sizes (Some t) P Q bound scope X f h k z = f t h k z
+        field_sizes None P Q bound scope X f h k z = absurd h
 
-      types_here : (v : Variable) → Vars v ⊎ (has_hole t v ≡ true) → has_hole (s q) v || (has_told (s q) v || G.finds_types v) ≡ true
-      types_here v (inl i) = or_later (has_hole (s q) v) (has_told (s q) v || G.finds_types v) (or_later (has_told (s q) v) (G.finds_types v) (types_found v i))
-      types_here v (inr y) = or_first (has_hole (s q) v) (has_told (s q) v || G.finds_types v) (ap (λ u. has_hole u v) e ∙ y)
-  judged_with home (Tuple_pattern ps) q l s t scope G e apart split split_types known finds types_found = absurd l
-  judged_with home (Record_pattern fs ps) q l s t scope G e apart split split_types known finds types_found = absurd l
-  judged_with home (Typed_pattern p w) q l s t scope G e apart split split_types known finds types_found = absurd l
+        mutual
+          sizes_with : (p : FlatPattern) (q : ℕ) (t : Size) → Has_parts N p t → Nodes N p q t s → (scope : Scope) (G : Context) → (is_among (names p) b ≡ false → Gives (scope b) → G.sizes b ≡ Some u) → Gives (bound_scope N p t scope b) → (with_names s p q G).sizes b ≡ Some u
+          sizes_with (Bound_pattern x) q t c n scope G hyp z = by_name (nat_eq x.0 b) refl z
+            where
+              by_name : (c : Bool) → nat_eq x.0 b ≡ c → ◌≡◌ {A = Option Known} (cond c (Some (record { size = t; is_general = false })) (scope b)) (Some (record { size = u; is_general = false })) → cond (nat_eq x.0 b) (Some (s q)) (G.sizes b) ≡ Some u
+              by_name true f z = ap (λ c. cond c (Some (s q)) (G.sizes b)) f ∙ ap Some (n ∙ known_same t u z)
+              by_name false f z = ap (λ c. cond c (Some (s q)) (G.sizes b)) f ∙ hyp (ap (λ c. cond c true false) (ne_eqb b x.0 (λ y. eqb-false x.0 b f (sym y)))) z
+          sizes_with Wild_pattern q t c n scope G hyp z = hyp refl z
+          sizes_with (Tuple_pattern ps) q (Built g ts) c n scope G hyp z = parts_sizes ps (1 + q) ts c.1 n.1 scope G hyp z
+          sizes_with (Tuple_pattern ps) q (Hole v) c n scope G hyp z = absurd c
+          sizes_with (Tuple_pattern ps) q (Open m v w) c n scope G hyp z = absurd c
+          sizes_with (Tuple_pattern ps) q (Level d t) c n scope G hyp z = absurd c
+          sizes_with (Tuple_pattern ps) q (Fun k p r) c n scope G hyp z = absurd c
+          sizes_with (Record_pattern fs ps) q t c n scope G hyp z = fields_sizes fs ps (1 + q) t c n.1 scope G hyp z
+          sizes_with (Typed_pattern p e) q t c n scope G hyp z = sizes_with p q t c.1 n scope G hyp z
+
+          parts_sizes : (ps : Patterns Ref BindId) (q : ℕ) (ts : Sizes) → All_have_parts N ps ts → All_nodes N ps q ts s → (scope : Scope) (G : Context) → (is_among (all_names ps) b ≡ false → Gives (scope b) → G.sizes b ≡ Some u) → Gives (parts_bound N ps ts scope b) → (with_all_names s ps q G).sizes b ≡ Some u
+          parts_sizes no_pattern q no_size c n scope G hyp z = hyp refl z
+          parts_sizes no_pattern q (size_and t ts) c n scope G hyp z = absurd c
+          parts_sizes (pattern_and p ps) q no_size c n scope G hyp z = absurd c
+          parts_sizes (pattern_and p ps) q (size_and t ts) c n scope G hyp z = parts_sizes ps (q + pattern_numbers p) ts c.1 n.1 (bound_scope N p t scope) (with_names s p q G)
+              (λ f y. sizes_with p q t c.0 n.0 scope G (λ e w. hyp (none_among (names p) (all_names ps) b e f) w) y) z
+
+          fields_sizes : (ls : List Text) (ps : Patterns Ref BindId) (q : ℕ) (t : Size) → Fields_have N ls ps t → Fields_nodes N ls ps q t s → (scope : Scope) (G : Context) → (is_among (all_names ps) b ≡ false → Gives (scope b) → G.sizes b ≡ Some u) → Gives (fields_bound N ls ps t scope b) → (with_all_names s ps q G).sizes b ≡ Some u
+          fields_sizes [] no_pattern q t c n scope G hyp z = hyp refl z
+          fields_sizes [] (pattern_and p ps) q t c n scope G hyp z = absurd c
+          fields_sizes (l ∷ ls) no_pattern q t c n scope G hyp z = absurd c
+          fields_sizes (l ∷ ls) (pattern_and p ps) q t c n scope G hyp z = fields_sizes ls ps (q + pattern_numbers p) t c.1 n.1 (field_bound N p (part_of N l t) scope) (with_names s p q G)
+              (λ f y. field_sizes (part_of N l t) (λ u. Has_parts N p u) (λ u. Nodes N p q u s) (λ v inner. bound_scope N p v inner) scope ((with_names s p q G).sizes b ≡ Some u) (λ v g m w. sizes_with p q v g m scope G (λ e r. hyp (none_among (names p) (all_names ps) b e f) r) w) c.0 n.0 y) z
+
+      abbrev pub Not_there : ℕ → ℕ → Free → Type 0
+      Not_there q hi d = (b : ℕ) → d ≡ Name b → At_home types home K places q hi b → ⊥
+
+      mutual
+        pub found_still : (p : FlatPattern) (q : ℕ) → Plain_pattern types home K places p q → (G : Context) (d : Free) → Not_there q (q + pattern_numbers p) d → G.finds d ≡ true → (with_names s p q G).finds d ≡ true
+        found_still (Bound_pattern x) q h G (Name b) a y = ap (λ c. cond c (is_number (s q)) (G.finds (Name b))) (ne_eqb x.0 b (λ z. a b refl (let w : home b ≡ q = ap home (sym z) ∙ h in (omega (arith, w), omega (arith, w))))) ∙ y
+        found_still (Bound_pattern x) q h G (Const c) a y = y
+        found_still (Bound_pattern x) q h G (Own n i) a y = y
+        found_still (Bound_pattern x) q h G (Unknown n i) a y = y
+        found_still (Bound_pattern x) q h G (Slot i) a y = y
+        found_still Wild_pattern q h G d a y = y
+        found_still (Tuple_pattern ps) q h G d a y = parts_still ps (1 + q) h G d (λ b z w. a b z (let l = w.0 in let m = w.1 in (omega (arith, l), omega (arith, m)))) y
+        found_still (Record_pattern fs ps) q h G d a y = parts_still ps (1 + q) h G d (λ b z w. a b z (let l = w.0 in let m = w.1 in (omega (arith, l), omega (arith, m)))) y
+        found_still (Typed_pattern p e) q h G d a y = found_still p q h.1 G d a y
+
+        parts_still : (ps : Patterns Ref BindId) (q : ℕ) → Plain_parts types home K places ps q → (G : Context) (d : Free) → Not_there q (q + all_pattern_numbers ps) d → G.finds d ≡ true → (with_all_names s ps q G).finds d ≡ true
+        parts_still no_pattern q h G d a y = y
+        parts_still (pattern_and p ps) q h G d a y = parts_still ps (q + pattern_numbers p) h.1 (with_names s p q G) d (λ b z w. a b z (let l = w.0 in let m = w.1 in (omega (arith, l), omega (arith, m))))
+            (found_still p q h.0 G d (λ b z w. a b z (let l = w.0 in let m = w.1 in (omega (arith, l), omega (arith, m)))) y)
+
+      mutual
+        found_named : (p : FlatPattern) (q : ℕ) → Plain_pattern types home K places p q → (t : Size) → Nodes N p q t s → (G : Context) (d : Free) → Named_by N p t d → (with_names s p q G).finds d ≡ true
+        found_named (Bound_pattern x) q h t n G d y = ap (λ z. (with_names s (Bound_pattern x) q G).finds z) y.0 ∙ ap (λ c. cond c (is_number (s q)) (G.finds (Name x.0))) (eq-eqb x.0 x.0 refl) ∙ ap is_number n ∙ y.1
+        found_named Wild_pattern q h t n G d y = absurd y
+        found_named (Tuple_pattern ps) q h (Built g ts) n G d y = part_found ps (1 + q) h ts n.1 G d y
+        found_named (Tuple_pattern ps) q h (Hole v) n G d y = absurd y
+        found_named (Tuple_pattern ps) q h (Open m v u) n G d y = absurd y
+        found_named (Tuple_pattern ps) q h (Level x t) n G d y = absurd y
+        found_named (Tuple_pattern ps) q h (Fun k p r) n G d y = absurd y
+        found_named (Record_pattern fs ps) q h t n G d y = fields_found fs ps (1 + q) h t n.1 G d y
+        found_named (Typed_pattern p e) q h t n G d y = found_named p q h.1 t n G d y
+
+        part_found : (ps : Patterns Ref BindId) (q : ℕ) → Plain_parts types home K places ps q → (ts : Sizes) → All_nodes N ps q ts s → (G : Context) (d : Free) → Part_named N ps ts d → (with_all_names s ps q G).finds d ≡ true
+        part_found no_pattern q h ts n G d y = absurd y
+        part_found (pattern_and p ps) q h no_size n G d y = absurd y
+        part_found (pattern_and p ps) q h (size_and t ts) n G d (inl y) = parts_still ps (q + pattern_numbers p) h.1 (with_names s p q G) d (λ b z w. elsewhere b z w (named_there types home K places N p q h.0 t d y)) (found_named p q h.0 t n.0 G d y)
+          where
+            elsewhere : (b : ℕ) → d ≡ Name b → At_home types home K places (q + pattern_numbers p) (q + pattern_numbers p + all_pattern_numbers ps) b → Name_there types home K places q (q + pattern_numbers p) d → ⊥
+            elsewhere b z (l, m) (c, e, (x, y)) = let same : c ≡ b = (let w : Name c ≡ Name b = sym e ∙ z in cc) in let w : home c ≡ home b = ap home same in omega (arith, l, y, w)
+        part_found (pattern_and p ps) q h (size_and t ts) n G d (inr y) = part_found ps (q + pattern_numbers p) h.1 ts n.1 (with_names s p q G) d y
+
+        fields_found : (ls : List Text) (ps : Patterns Ref BindId) (q : ℕ) → Plain_parts types home K places ps q → (t : Size) → Fields_nodes N ls ps q t s → (G : Context) (d : Free) → Fields_named N ls ps t d → (with_all_names s ps q G).finds d ≡ true
+        fields_found [] ps q h t n G d y = absurd y
+        fields_found (l ∷ ls) no_pattern q h t n G d y = absurd y
+        fields_found (l ∷ ls) (pattern_and p ps) q h t n G d (inl y) = parts_still ps (q + pattern_numbers p) h.1 (with_names s p q G) d (λ b z w. elsewhere b z w (of_part (part_of N l t) (λ u. Named_by N p u d) (Name_there types home K places q (q + pattern_numbers p) d) (λ u k. named_there types home K places N p q h.0 u d k) y)) (both_parts (part_of N l t) (λ u. Named_by N p u d) (λ u. Nodes N p q u s) ((with_names s p q G).finds d ≡ true) (λ u k m. found_named p q h.0 u m G d k) y n.0)
+          where
+            elsewhere : (b : ℕ) → d ≡ Name b → At_home types home K places (q + pattern_numbers p) (q + pattern_numbers p + all_pattern_numbers ps) b → Name_there types home K places q (q + pattern_numbers p) d → ⊥
+            elsewhere b z (r, m) (c, e, (x, y)) = let same : c ≡ b = (let w : Name c ≡ Name b = sym e ∙ z in cc) in let w : home c ≡ home b = ap home same in omega (arith, r, y, w)
+        fields_found (l ∷ ls) (pattern_and p ps) q h t n G d (inr y) = fields_found ls ps (q + pattern_numbers p) h.1 t n.1 (with_names s p q G) d y
+
+      mutual
+        types_still : (p : FlatPattern) (q : ℕ) (G : Context) (v : Variable) → (with_names s p q G).finds_types v ≡ G.finds_types v
+        types_still (Bound_pattern x) q G v = refl
+        types_still Wild_pattern q G v = refl
+        types_still (Tuple_pattern ps) q G v = parts_types_still ps (1 + q) G v
+        types_still (Record_pattern fs ps) q G v = parts_types_still ps (1 + q) G v
+        types_still (Typed_pattern p e) q G v = types_still p q G v
+
+        parts_types_still : (ps : Patterns Ref BindId) (q : ℕ) (G : Context) (v : Variable) → (with_all_names s ps q G).finds_types v ≡ G.finds_types v
+        parts_types_still no_pattern q G v = refl
+        parts_types_still (pattern_and p ps) q G v = parts_types_still ps (q + pattern_numbers p) (with_names s p q G) v ∙ types_still p q G v
+
+      module _ (p : FlatPattern) (q : ℕ) (l : Plain_pattern types home K places p q) (t : Size) (c : Has_parts N p t) (n : Nodes N p q t s) (scope : Scope) (G : Context) (known : (b : ℕ) (u : Size) → is_among (names p) b ≡ false → scope b ≡ Some (record { size = u; is_general = false }) → G.sizes b ≡ Some u) where
+        pub judged_names : ((d : Free) → In' d → Named_by N p t d ⊎ (((G.finds d ≡ true) × Not_there q (q + pattern_numbers p) d) ⊎ Is_const d)) → ((v : Variable) → Vars' v → G.finds_types v ≡ true) → Judged In' Vars' (bound_scope N p t scope) (with_names s p q G)
+        judged_names split types_found = record {
+          sizes = λ b u z. sizes_with b u p q t c n scope G (known b u) z;
+          finds = λ d i. by_form d (split d i);
+          finds_types = λ v i. types_still p q G v ∙ types_found v i;
+        }
+          where
+            by_form : (d : Free) → Named_by N p t d ⊎ (((G.finds d ≡ true) × Not_there q (q + pattern_numbers p) d) ⊎ Is_const d) → ((with_names s p q G).finds d ≡ true) ⊎ Is_const d
+            by_form d (inl y) = inl (found_named p q l t n G d y)
+            by_form d (inr (inl y)) = inl (found_still p q l G d y.1 y.0)
+            by_form d (inr (inr y)) = inr y
+
+      module _ (In : Free → Type 0) (Vars : Variable → Type 0) (p : FlatPattern) (q : ℕ) (l : Plain_pattern types home K places p q) (t : Size) (c : Has_parts N p t) (n : Nodes N p q t s) (scope : Scope) (G : Context) where
+        pub judged_with : ((b : ℕ) → In (Name b) → At_home types home K places q (q + pattern_numbers p) b → ⊥)
+            → ((d : Free) → In' d → In d ⊎ (Stands_there home q (q + pattern_numbers p) t d ⊎ (Named_by N p t d ⊎ Is_const d))) → ((v : Variable) → Vars' v → Vars v ⊎ (has_hole t v ≡ true))
+            → ((b : ℕ) (u : Size) → is_among (names p) b ≡ false → scope b ≡ Some (record { size = u; is_general = false }) → G.sizes b ≡ Some u)
+            → ((d : Free) → In d → (G.finds d ≡ true) ⊎ Is_const d) → ((v : Variable) → Vars v → G.finds_types v ≡ true)
+            → Judged In' Vars' (bound_scope N p t scope) (with_pattern s p q G)
+        judged_with apart split split_types known finds types_found = judged_names p q l t c n scope (with_entered (s q) G) known (λ d i. by_form d (split d i)) (λ v i. types_here v (split_types v i))
+          where
+            standing : (d : Free) → stands t d ≡ true → stands (s q) d || (stands_told (s q) d || G.finds d) ≡ true
+            standing d y = or_first (stands (s q) d) (stands_told (s q) d || G.finds d) (ap (λ u. stands u d) (first_node N p q t s n) ∙ y)
+
+            of_before : (d : Free) → In d → (G.finds d ≡ true) ⊎ Is_const d → Named_by N p t d ⊎ ((((with_entered (s q) G).finds d ≡ true) × Not_there q (q + pattern_numbers p) d) ⊎ Is_const d)
+            of_before d i (inl y) = inr (inl (or_later (stands (s q) d) (stands_told (s q) d || G.finds d) (or_later (stands_told (s q) d) (G.finds d) y), λ b z w. apart b (subst In z i) w))
+            of_before d i (inr y) = inr (inr y)
+
+            by_form : (d : Free) → In d ⊎ (Stands_there home q (q + pattern_numbers p) t d ⊎ (Named_by N p t d ⊎ Is_const d)) → Named_by N p t d ⊎ ((((with_entered (s q) G).finds d ≡ true) × Not_there q (q + pattern_numbers p) d) ⊎ Is_const d)
+            by_form d (inl i) = of_before d i (finds d i)
+            by_form d (inr (inl y)) = inr (inl (standing d y.0, λ b z w. y.1 b z w))
+            by_form d (inr (inr (inl y))) = inl y
+            by_form d (inr (inr (inr y))) = inr (inr y)
+
+            types_here : (v : Variable) → Vars v ⊎ (has_hole t v ≡ true) → has_hole (s q) v || (has_told (s q) v || G.finds_types v) ≡ true
+            types_here v (inl i) = or_later (has_hole (s q) v) (has_told (s q) v || G.finds_types v) (or_later (has_told (s q) v) (G.finds_types v) (types_found v i))
+            types_here v (inr y) = or_first (has_hole (s q) v) (has_told (s q) v || G.finds_types v) (ap (λ u. has_hole u v) (first_node N p q t s n) ∙ y)

@@ -1,5 +1,6 @@
 -- What the sized type of an operation's result says: what those of its parts say, and what its node meets.
-use Rattle.std.proofs.Common.{◌≡◌, ℕ, suc, ◌+◌, List, [], ◌∷◌, Bool, true, false, cond, nat_eq, Option, Some, None, Ok, Err, refl, sym, ap, ◌∙◌, subst, arith}
+use Rattle.std.proofs.Common.{◌≡◌, ℕ, zero, suc, ◌+◌, List, [], ◌∷◌, Bool, true, false, cond, nat_eq, ◌⊎◌, length, map, Option, Some, None, Ok, Err, refl, sym, ap, ◌∙◌, subst, arith, inl, inr, eqb-true, eq-eqb}
+use Rattle.fut_ast.specs.Sorts.{Text}
 use Rattle.fut_ast.specs.declared.node.End.{End}
 use Rattle.fut_ast.specs.declared.node.End.TheVariants as end
 use Rattle.fut_scalar.specs.declared.place.BindId.{BindId}
@@ -14,7 +15,7 @@ use Rattle.fut_scalar.specs.declared.scalar.IntType.TheVariants as int
 use Rattle.fut_types.specs.declared.Head.TheVariants as head
 use Rattle.fut_types.specs.declared.Kind.{Kind}
 use Rattle.fut_types.specs.Types.{Ty, Var, Made, Tys, none, more, Sub, Kinds}
-use Rattle.fut_typing.specs.Names.{Names}
+use Rattle.fut_typing.specs.Names.{Names, AreNames, IsRecord, Parts_named}
 use Rattle.fut_typing.specs.Primitives.{array_ty, i64_ty}
 use Rattle.fut_flat.specs.Erased.{FlatTerm, FlatType}
 use Rattle.fut_typing.specs.Names.{count}
@@ -22,11 +23,14 @@ use Rattle.fut_typing.specs.Rules.{Rule, Indexed, bounds, All_are}
 use Rattle.fut_typing.specs.Typing.{term_types, operand}
 use Rattle.sized_types.specs.Sizes.{Free, Const, Name, Unknown, Dim, At, Bound, levels, Variable, Inferred, Written, Size, Hole, Open, Level, Built, Fun, Sizes, no_size, size_and, erased, all_erased}
 use Rattle.fut_sizes.specs.Agreeing.{Answer, Irregular, then_do, type_levels, of_type, of_types, no_size_of}
-use Rattle.fut_sizes.specs.Operations.{operation, plain, empty_of, range_of, range_size, both, is_i64, element_ty, elements_agree, updated, indexed, many, value_of, slice_size, is_literal}
+use Rattle.fut_types.specs.Shapes.{place, place_from, part_at, part_named, HasPart}
+use Rattle.fut_typing.proofs.Members.{In as Is_in}
+use Rattle.sizes_meet_rules.proofs.Covering.{Apart, numbers_apart, here_place, there_place, placed_label, all_written}
+use Rattle.fut_sizes.specs.Operations.{operation, labelled, in_order, record_of, plain, part_or, empty_of, range_of, range_size, both, is_i64, element_ty, elements_agree, updated, indexed, many, value_of, slice_size, is_literal}
 use Rattle.fut_sizes.specs.Rules.{Each_hole, Each_holes}
 use Rattle.fut_sizes.specs.Scoping.{is_number}
 use Rattle.fut_sizes.specs.Suiting.{Each, Each_all, Scoped}
-use Rattle.fut_sizes.specs.WrittenSizes.{has_sizes, ascribed, written_dim, dim_or, same_dim, with_sizes, all_with_sizes, coerced, coercion, declared}
+use Rattle.fut_sizes.specs.WrittenSizes.{part as size_part, with_part, part_of, changed_part, has_sizes, ascribed, written_dim, dim_or, same_dim, with_sizes, all_with_sizes, fields_with_sizes, levels_there, coerced, coercion, declared}
 use Rattle.sizes_meet_rules.specs.Known.{Formed, All_formed, Is_made, Says}
 use Rattle.sizes_meet_rules.specs.Plain.{Formed_type, Written_data, All_written_data, Is_scalar, Plain_operation}
 use Rattle.sizes_meet_rules.proofs.Owning.{Owned, of_type_owned}
@@ -43,6 +47,7 @@ abbrev mutual
   Sizes_written In (Array_type s e) = Size_written In s × Sizes_written In e
   Sizes_written In (Unique_type e) = Sizes_written In e
   Sizes_written In (Tuple_type es) = All_sizes_written In es
+  Sizes_written In (Record_type fs es) = All_sizes_written In es
   Sizes_written In e = Unit {0}
 
   pub All_sizes_written : (Free → Type 0) → Type_terms Ref BindId → Type 0
@@ -77,6 +82,35 @@ first_ty e = cc
 pub rest_ty : {t u : Ty} {ts us : Tys} → more t ts ≡ more u us → ts ≡ us
 rest_ty e = cc
 
+-- parts of tuples and records say what these say
+module _ (N : Names) (In : Free → Type 0) (Vars : Variable → Type 0) where
+  part_at_says : (o : Option ℕ) (ts : Sizes) (y : Ty) → All_say In Vars ts → part_at o (all_erased ts) ≡ Some y → (w : Size) × (size_part o ts ≡ Some w) × Says In Vars w × (erased w ≡ y)
+  unfolding part_at all_erased
+  part_at_says None ts y h e = absurd (let z : None ≡ Some y = e in cc)
+  part_at_says (Some i) no_size y h e = absurd (let z : None ≡ Some y = e in cc)
+  part_at_says (Some zero) (size_and t ts) y h e = (t, refl, first_says In Vars t ts h, let z : Some (erased t) ≡ Some y = e in cc)
+  part_at_says (Some (suc i)) (size_and t ts) y h e = part_at_says (Some i) ts y (rest_say In Vars t ts h) e
+
+  pub record Part_there (f : Text) (u : Size) (y : Ty) : Type 0 where
+    pub part : Size
+    pub is : part_of N f u ≡ Some part
+    pub says : Says In Vars part
+    pub typed : erased part ≡ y
+
+  no_part : {X : Type 0} (y : Ty) → None ≡ Some y → X
+  no_part y e = absurd (let z : None ≡ Some y = e in cc)
+
+  pub part_of_says : (f : Text) (u : Size) (x y : Ty) → Says In Vars u → erased u ≡ x → HasPart N.shapes (N.label f) x y → Part_there f u y
+  unfolding part_of part_named part_at place erased Each Each_hole Formed
+  part_of_says f (Built k ts) x y h e p =
+      let w = part_at_says (place N.shapes (N.label f) k) ts y (record { sizes = h.sizes; variables = h.variables; formed = h.formed.1 }) (subst (λ z. part_named N.shapes (N.label f) z ≡ Some y) (sym e) p) in
+      record { part = w.0; is = w.1; says = w.2; typed = w.3 }
+  part_of_says f (Hole (Inferred v)) x y h e p = no_part y (subst (λ z. part_named N.shapes (N.label f) z ≡ Some y) (sym e) p)
+  part_of_says f (Hole (Written b k)) x y h e p = no_part y (subst (λ z. part_named N.shapes (N.label f) z ≡ Some y) (sym e) p)
+  part_of_says f (Open n v t) x y h e p = absurd h.formed
+  part_of_says f (Level d t) x y h e p = no_part y (subst (λ z. part_named N.shapes (N.label f) z ≡ Some y) (sym e) p)
+  part_of_says f (Fun k t r) x y h e p = no_part y (subst (λ z. part_named N.shapes (N.label f) z ≡ Some y) (sym e) p)
+
 module _ (N : Names) (types : Sub) (K : Kinds) (places : Kind) (In : Free → Type 0) (Vars : Variable → Type 0) (constants : (c : ℕ) → In (Const c)) where
   -- a part that is the name of a number may be a size
   abbrev pub Size_named : FlatTerm → ℕ → Type 0
@@ -108,7 +142,7 @@ module _ (N : Names) (types : Sub) (K : Kinds) (places : Kind) (In : Free → Ty
   Written_named o = Unit {0}
 
   abbrev Given : Operation Ref BindId → Type 0
-  Given o = (lo : ℕ) → ((i : ℕ) → In (Unknown lo i)) → (at : ℕ) (ts : Terms Ref BindId) (us : Sizes) (t : Size) → Plain_operation o (types lo) ts → Rule N places K o (types lo) (types (operand o lo)) (term_types types ts at) → All_say In Vars us → all_erased us ≡ term_types types ts at → Written_named o → Sizes_named ts at → operation N types o lo at ts us ≡ Ok t → Gives lo t
+  Given o = (lo : ℕ) → ((i : ℕ) → In (Unknown lo i)) → (at : ℕ) (ts : Terms Ref BindId) (us : Sizes) (t : Size) → Plain_operation N o (types lo) ts → Rule N places K o (types lo) (types (operand o lo)) (term_types types ts at) → All_say In Vars us → all_erased us ≡ term_types types ts at → Written_named o → Sizes_named ts at → operation N types o lo at ts us ≡ Ok t → Gives lo t
 
   tuple_gives : Given Tuple_of
   unfolding operation Each Each_hole Formed erased
@@ -200,11 +234,30 @@ module _ (N : Names) (types : Sub) (K : Kinds) (places : Kind) (In : Free → Ty
   written_in (Size_const c) d w h = constants c
   written_in (Size_blank b) d w h = h
 
+  -- a part that is changed and keeps its type
+  module _ (change : Size → Size) (keeps : (u : Size) → Says In Vars u → Says In Vars (change u) × (erased (change u) ≡ erased u)) where
+    one_changed : (o : Option ℕ) (ts : Sizes) → All_say In Vars ts → All_say In Vars (with_part o change ts) × (all_erased (with_part o change ts) ≡ all_erased ts)
+    unfolding all_erased
+    one_changed None ts h = (h, refl)
+    one_changed (Some i) no_size h = (h, refl)
+    one_changed (Some zero) (size_and t ts) h = let k = keeps t (first_says In Vars t ts h) in (more_say In Vars (change t) ts k.0 (rest_say In Vars t ts h), ap (λ z. more z (all_erased ts)) k.1)
+    one_changed (Some (suc i)) (size_and t ts) h = let k = one_changed (Some i) ts (rest_say In Vars t ts h) in (more_say In Vars t (with_part (Some i) change ts) (first_says In Vars t ts h) k.0, ap (more (erased t)) k.1)
+
+    part_changed : (f : Text) (t : Size) → Says In Vars t → Says In Vars (changed_part N f change t) × (erased (changed_part N f change t) ≡ erased t)
+    unfolding changed_part erased Each Each_hole Formed
+    part_changed f (Built k ts) h =
+        let w = one_changed (place N.shapes (N.label f) k) ts (record { sizes = h.sizes; variables = h.variables; formed = h.formed.1 }) in
+        (record { sizes = w.0.sizes; variables = w.0.variables; formed = (h.formed.0, w.0.formed) }, ap (Made k) w.1)
+    part_changed f (Hole v) h = (h, refl)
+    part_changed f (Open m v t) h = (h, refl)
+    part_changed f (Level l t) h = (h, refl)
+    part_changed f (Fun k t r) h = (h, refl)
+
   module _ (results : Option (ℕ → ℕ → Dim → Dim)) (blank : ℕ → Dim → Dim) (blanks : (i : ℕ) (d : Dim) → Scoped In 0 d → Scoped In 0 (blank i d)) where
     mutual
-      unfolding with_sizes all_with_sizes Each Each_all Each_hole Each_holes Formed All_formed erased all_erased
+      unfolding with_sizes all_with_sizes fields_with_sizes Each Each_all Each_hole Each_holes Formed All_formed erased all_erased
 
-      with_says : (e : FlatType) → Written_data e → Sizes_written In e → (t : Size) (i : ℕ) → Says In Vars t → Says In Vars (with_sizes N results blank i e t) × (erased (with_sizes N results blank i e t) ≡ erased t)
+      pub with_says : (e : FlatType) → Written_data e → Sizes_written In e → (t : Size) (i : ℕ) → Says In Vars t → Says In Vars (with_sizes N results blank i e t) × (erased (with_sizes N results blank i e t) ≡ erased t)
       with_says (Type_use r args) p w t i h = (h, refl)
       with_says (Array_type s e) p w (Level d t) i h =
           let k = with_says e p w.1 t (suc i) (record { sizes = h.sizes.1; variables = h.variables; formed = h.formed }) in
@@ -216,7 +269,7 @@ module _ (N : Names) (types : Sub) (K : Kinds) (places : Kind) (In : Free → Ty
           (record { sizes = k.0.sizes; variables = k.0.variables; formed = (h.formed.0, k.0.formed) }, ap (Made g) k.1)
       with_says (Tuple_type es) p w t i h = (h, refl)
       with_says (Arrow_type b x y) p w t i h = absurd p
-      with_says (Record_type fs es) p w t i h = absurd p
+      with_says (Record_type fs es) p w t i h = fields_with_say fs es p w t i h
 
       all_with_say : (es : Type_terms Ref BindId) → All_written_data es → All_sizes_written In es → (ts : Sizes) (i : ℕ) → All_say In Vars ts → All_say In Vars (all_with_sizes N results blank i es ts) × (all_erased (all_with_sizes N results blank i es ts) ≡ all_erased ts)
       all_with_say (type_and e es) p w (size_and t ts) i h =
@@ -225,6 +278,14 @@ module _ (N : Names) (types : Sub) (K : Kinds) (places : Kind) (In : Free → Ty
           (record { sizes = (a.0.sizes, b.0.sizes); variables = (a.0.variables, b.0.variables); formed = (a.0.formed, b.0.formed) }, ap (λ x. more x (all_erased (all_with_sizes N results blank (levels t + i) es ts))) a.1 ∙ ap (more (erased t)) b.1)
       all_with_say (type_and e es) p w no_size i h = (h, refl)
       all_with_say no_type p w ts i h = (h, refl)
+
+      fields_with_say : (fs : List Text) (es : Type_terms Ref BindId) → All_written_data es → All_sizes_written In es → (t : Size) (i : ℕ) → Says In Vars t → Says In Vars (fields_with_sizes N results blank i fs es t) × (erased (fields_with_sizes N results blank i fs es t) ≡ erased t)
+      fields_with_say (f ∷ fs) (type_and e es) p w t i h =
+          let a = part_changed (with_sizes N results blank i e) (λ u k. with_says e p.0 w.0 u i k) f t h in
+          let b = fields_with_say fs es p.1 w.1 (changed_part N f (with_sizes N results blank i e) t) (levels_there (part_of N f t) + i) a.0 in
+          (b.0, b.1 ∙ a.1)
+      fields_with_say [] es p w t i h = (h, refl)
+      fields_with_say (f ∷ fs) no_type p w t i h = (h, refl)
 
   coerce_gives : (e : FlatType) → Given (Coerce e)
   unfolding operation coercion coerced all_erased
@@ -250,6 +311,86 @@ module _ (N : Names) (types : Sub) (K : Kinds) (places : Kind) (In : Free → Ty
       let k = with_says (Some (λ k i d. Bound 0 (suc k + i))) (λ i d. At (Unknown lo i)) (λ i d z. met i) x p v u 0 (first_says In Vars u no_size h) in
       subst (λ z. Gives lo z) (same_ok ran.rest) (record { says = k.0; typed = k.1 ∙ first_ty e ∙ sym r })
 
+  -- ---- parts of tuples and records
+
+  project_gives : (f : Text) → Given (Project f)
+  unfolding operation all_erased
+  project_gives f lo met at no_term us t p r h e v w q = absurd r
+  project_gives f lo met at (term_and y no_term) no_size t p r h e v w q = absurd (let z : none ≡ more (types at) none = e in cc)
+  project_gives f lo met at (term_and y no_term) (size_and u (size_and u2 us)) t p r h e v w q = absurd (let z : more (erased u2) (all_erased us) ≡ none = rest_ty e in cc)
+  project_gives f lo met at (term_and y (term_and z ys)) us t p r h e v w q = absurd r
+  project_gives f lo met at (term_and y no_term) (size_and u no_size) t p r h e v w q =
+      let P = part_of_says N In Vars f u (types at) (types lo) (first_says In Vars u no_size h) (first_ty e) (subst (λ z. HasPart N.shapes (N.label f) z (types lo)) (sym r.0) r.1) in
+      let step : ◌≡◌ {A = Answer Size} (Ok (part_or (part_of N f u) (plain N types lo))) (Ok t) = q in
+      subst (λ z. Gives lo z) (sym (ap (λ o. part_or o (plain N types lo)) P.is) ∙ same_ok step) (record { says = P.says; typed = P.typed })
+
+  with_part_says : (o : Option ℕ) (ts : Sizes) (n : Size) (y : Ty) → All_say In Vars ts → Says In Vars n → erased n ≡ y → part_at o (all_erased ts) ≡ Some y → All_say In Vars (with_part o (λ u. n) ts) × (all_erased (with_part o (λ u. n) ts) ≡ all_erased ts)
+  unfolding part_at all_erased
+  with_part_says None ts n y h k e p = (h, refl)
+  with_part_says (Some i) no_size n y h k e p = (h, refl)
+  with_part_says (Some zero) (size_and t ts) n y h k e p = (more_say In Vars n ts k (rest_say In Vars t ts h), ap (λ z. more z (all_erased ts)) (e ∙ (let z : Some (erased t) ≡ Some y = p in let w : y ≡ erased t = cc in w)))
+  with_part_says (Some (suc i)) (size_and t ts) n y h k e p = let w = with_part_says (Some i) ts n y (rest_say In Vars t ts h) k e p in (more_say In Vars t (with_part (Some i) (λ u. n) ts) (first_says In Vars t ts h) w.0, ap (more (erased t)) w.1)
+
+  changed_says : (f : Text) (u n : Size) (x y : Ty) → Says In Vars u → erased u ≡ x → Says In Vars n → erased n ≡ y → HasPart N.shapes (N.label f) x y → Says In Vars (changed_part N f (λ w. n) u) × (erased (changed_part N f (λ w. n) u) ≡ x)
+  unfolding changed_part part_named erased Each Each_hole Formed
+  changed_says f (Built k ts) n x y h e g d p =
+      let w = with_part_says (place N.shapes (N.label f) k) ts n y (record { sizes = h.sizes; variables = h.variables; formed = h.formed.1 }) g d (subst (λ z. part_named N.shapes (N.label f) z ≡ Some y) (sym e) p) in
+      (record { sizes = w.0.sizes; variables = w.0.variables; formed = (h.formed.0, w.0.formed) }, ap (Made k) w.1 ∙ e)
+  changed_says f (Hole v) n x y h e g d p = (h, e)
+  changed_says f (Open m v t) n x y h e g d p = (h, e)
+  changed_says f (Level l t) n x y h e g d p = (h, e)
+  changed_says f (Fun k t r) n x y h e g d p = (h, e)
+
+  -- ---- records
+
+  labelled_says : (l : ℕ) (T y : Ty) → part_named N.shapes l T ≡ Some y → (rest : Sizes) → All_say In Vars rest → (fs : List Text) (ts : Sizes) (us : Tys) → Parts_named N fs T us → All_say In Vars ts → all_erased ts ≡ us → Is_in l (map N.label fs)
+      → All_say In Vars (labelled N l fs ts rest) × (all_erased (labelled N l fs ts rest) ≡ more y (all_erased rest))
+  unfolding all_erased
+  labelled_says l T y p rest k [] ts us h a e i = absurd i
+  labelled_says l T y p rest k (f ∷ fs) no_size none h a e i = absurd h
+  labelled_says l T y p rest k (f ∷ fs) no_size (more u us) h a e i = absurd (let z : none ≡ more u us = e in cc)
+  labelled_says l T y p rest k (f ∷ fs) (size_and t ts) none h a e i = absurd h
+  labelled_says l T y p rest k (f ∷ fs) (size_and t ts) (more u us) h a e i = by_label (nat_eq (N.label f) l) refl (labelled_says l T y p rest k fs ts us h.1 (rest_say In Vars t ts a) (rest_ty e)) i
+    where
+      same : N.label f ≡ l → erased t ≡ y
+      same g = let z : Some u ≡ Some y = sym h.0 ∙ ap (λ m. part_named N.shapes m T) g ∙ p in first_ty e ∙ (let w : u ≡ y = cc in w)
+
+      by_label : (b : Bool) → nat_eq (N.label f) l ≡ b → (Is_in l (map N.label fs) → All_say In Vars (labelled N l fs ts rest) × (all_erased (labelled N l fs ts rest) ≡ more y (all_erased rest))) → (l ≡ N.label f) ⊎ Is_in l (map N.label fs)
+          → All_say In Vars (cond (nat_eq (N.label f) l) (size_and t rest) (labelled N l fs ts rest)) × (all_erased (cond (nat_eq (N.label f) l) (size_and t rest) (labelled N l fs ts rest)) ≡ more y (all_erased rest))
+      by_label true g go i = subst (λ b. All_say In Vars (cond b (size_and t rest) (labelled N l fs ts rest)) × (all_erased (cond b (size_and t rest) (labelled N l fs ts rest)) ≡ more y (all_erased rest))) (sym g) (more_say In Vars t rest (first_says In Vars t ts a) k, ap (λ z. more z (all_erased rest)) (same (eqb-true (N.label f) l g)))
+      by_label false g go (inl i) = absurd (let z : true ≡ false = sym (eq-eqb (N.label f) l (sym i)) ∙ g in cc)
+      by_label false g go (inr i) = subst (λ b. All_say In Vars (cond b (size_and t rest) (labelled N l fs ts rest)) × (all_erased (cond b (size_and t rest) (labelled N l fs ts rest)) ≡ more y (all_erased rest))) (sym g) (go i)
+
+  in_order_says : (T : Ty) (fs : List Text) (ts : Sizes) (us : Tys) → Parts_named N fs T us → All_say In Vars ts → all_erased ts ≡ us → (ls : List ℕ) (ps : Tys) → Apart ls → count ps ≡ length ls → ((l : ℕ) (t : Ty) → part_at (place_from 0 l ls) ps ≡ Some t → part_named N.shapes l T ≡ Some t) → ((l : ℕ) → Is_in l ls → Is_in l (map N.label fs))
+      → All_say In Vars (in_order N ls fs ts) × (all_erased (in_order N ls fs ts) ≡ ps)
+  unfolding all_erased
+  in_order_says T fs ts us h a e [] none d c p w = (none_say In Vars, refl)
+  in_order_says T fs ts us h a e [] (more t ps) d c p w = absurd (let z : 1 + count ps ≡ 0 = c in omega (arith, z))
+  in_order_says T fs ts us h a e (l ∷ ls) none d c p w = absurd (let z : 0 ≡ suc (length ls) = c in omega (arith, z))
+  in_order_says T fs ts us h a e (l ∷ ls) (more t ps) d c p w =
+      let r = in_order_says T fs ts us h a e ls ps d.1 (let z : 1 + count ps ≡ suc (length ls) = c in omega (arith, z)) (λ m u q. p m u (there_place m l ls t ps (λ same. d.0 (subst (λ x. Is_in x ls) (sym same) (placed_label m ls ps u q))) ∙ q)) (λ m i. w m (inr i)) in
+      let k = labelled_says l T t (p l t (here_place l ls t ps)) (in_order N ls fs ts) r.0 fs ts us h a e (w l (inl refl)) in
+      (k.0, k.1 ∙ ap (more t) r.1)
+
+  record_gives : (fs : List Text) → AreNames N → (lo : ℕ) (us : Sizes) (t : Size) (ws : Tys) → IsRecord N fs (types lo) ws → All_say In Vars us → all_erased us ≡ ws → ◌≡◌ {A = Answer Size} (Ok (record_of N fs (types lo) us)) (Ok t) → Gives lo t
+  unfolding part_named place Each Each_hole Formed erased
+  record_gives fs are lo us t ws r h e q =
+      let k = in_order_says (types lo) fs us ws r.named h e (N.shapes.fields r.number) r.parts (numbers_apart (N.shapes.fields r.number) (are.once r.number)) (r.all ∙ sym r.fields) (λ l y p. ap (λ z. part_named N.shapes l z) r.made ∙ p) (all_written N are fs (types lo) ws r) in
+      subst (λ z. Gives lo z) (sym (ap (λ z. record_of N fs z us) r.made) ∙ same_ok q) (record { says = record { sizes = k.0.sizes; variables = k.0.variables; formed = (tt, k.0.formed) }; typed = ap (Made (head.Record r.number)) k.1 ∙ sym r.made })
+
+  replace_gives : (f : Text) → Given (Replace f)
+  unfolding operation all_erased
+  replace_gives f lo met at no_term us t p r h e v w q = absurd r
+  replace_gives f lo met at (term_and y no_term) us t p r h e v w q = absurd r
+  replace_gives f lo met at (term_and y (term_and z (term_and x xs))) us t p r h e v w q = absurd r
+  replace_gives f lo met at (term_and y (term_and z no_term)) no_size t p r h e v w q = absurd (let a : none ≡ more (types at) (more (types (at + numbers y)) none) = e in cc)
+  replace_gives f lo met at (term_and y (term_and z no_term)) (size_and u no_size) t p r h e v w q = absurd (let a : none ≡ more (types (at + numbers y)) none = rest_ty e in cc)
+  replace_gives f lo met at (term_and y (term_and z no_term)) (size_and u (size_and n (size_and u2 us))) t p r h e v w q = absurd (let a : more (erased u2) (all_erased us) ≡ none = rest_ty (rest_ty e) in cc)
+  replace_gives f lo met at (term_and y (term_and z no_term)) (size_and u (size_and n no_size)) t p r h e v w q =
+      let k = changed_says f u n (types lo) (types (at + numbers y)) (first_says In Vars u (size_and n no_size) h) (first_ty e ∙ sym r.0) (first_says In Vars n no_size (rest_say In Vars u (size_and n no_size) h)) (first_ty (rest_ty e)) r.1 in
+      let step : ◌≡◌ {A = Answer Size} (Ok (changed_part N f (λ w. n) u)) (Ok t) = q in
+      subst (λ z. Gives lo z) (same_ok step) (record { says = k.0; typed = k.1 })
+
   -- one level less for each index, another size for each slice
   module _ (n : ℕ) (met : (i : ℕ) → In (Unknown n i)) where
     abbrev Indexed_says : List Part → Terms Ref BindId → ℕ → Size → Ty → Type 0
@@ -269,15 +410,15 @@ module _ (N : Names) (types : Sub) (K : Kinds) (places : Kind) (In : Free → Ty
     no_array (Fun k f t) x element h e a n = absurd (let z : Made head.Fun (more (erased f) (more (erased t) none)) ≡ Made head.Array (more element none) = e ∙ a in cc)
 
     -- the level that is indexed
-    record Level_of (u : Size) (element : Ty) : Type 0 where
-      dim : Dim
-      row : Size
-      is : u ≡ Level dim row
-      known : Scoped In 0 dim
-      says : Says In Vars row
-      typed : erased row ≡ element
+    pub record Level_of (u : Size) (element : Ty) : Type 0 where
+      pub dim : Dim
+      pub row : Size
+      pub is : u ≡ Level dim row
+      pub known : Scoped In 0 dim
+      pub says : Says In Vars row
+      pub typed : erased row ≡ element
 
-    level_of : (u : Size) (x element : Ty) → Says In Vars u → erased u ≡ x → x ≡ array_ty element → Level_of u element
+    pub level_of : (u : Size) (x element : Ty) → Says In Vars u → erased u ≡ x → x ≡ array_ty element → Level_of u element
     unfolding erased all_erased Each Each_hole Formed
     level_of (Level d t) x element h e a = record { dim = d; row = t; is = refl; known = h.sizes.0; says = record { sizes = h.sizes.1; variables = h.variables; formed = h.formed }; typed = (let z : Made head.Array (more (erased t) none) ≡ Made head.Array (more element none) = e ∙ a in cc) }
     level_of (Hole v) x element h e a = no_array (Hole v) x element h e a (λ d t z. (let y : Hole v ≡ Level d t = z in cc))
@@ -385,9 +526,9 @@ module _ (N : Names) (types : Sub) (K : Kinds) (places : Kind) (In : Free → Ty
   operation_gives Update lo met at ts us t p r h e v w q = update_gives lo met at ts us t p r h e v w q
   operation_gives (Index ps) lo met at ts us t p r h e v w q = index_gives ps lo met at ts us t p r h e v w q
   operation_gives (Ascribe x) lo met at ts us t p r h e v w q = ascribe_gives x lo met at ts us t p r h e v w q
-  operation_gives (Record_of fs) lo met at ts us t p r h e v w q = absurd p
-  operation_gives (Project f) lo met at ts us t p r h e v w q = absurd p
-  operation_gives (Replace f) lo met at ts us t p r h e v w q = absurd p
+  operation_gives (Record_of fs) lo met at ts us t p r h e v w q = record_gives fs p lo us t (term_types types ts at) r h e q
+  operation_gives (Project f) lo met at ts us t p r h e v w q = project_gives f lo met at ts us t p r h e v w q
+  operation_gives (Replace f) lo met at ts us t p r h e v w q = replace_gives f lo met at ts us t p r h e v w q
   operation_gives (Coerce x) lo met at ts us t p r h e v w q = coerce_gives x lo met at ts us t p r h e v w q
   operation_gives (Declared x) lo met at ts us t p r h e v w q = declared_gives x lo met at ts us t p r h e v w q
   operation_gives (Range b x) lo met at ts us t p r h e v w q = range_gives b x lo met at ts us t p r h e v w q

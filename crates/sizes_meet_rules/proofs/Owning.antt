@@ -1,13 +1,41 @@
 -- The sized type that a type has by itself.
-use Rattle.std.proofs.Common.{◌≡◌, ℕ, suc, ◌+◌, refl, ap, ◌∙◌, arith}
+use Rattle.std.proofs.Common.{◌≡◌, ℕ, suc, ◌+◌, ◌<◌, ◌≤◌, refl, ap, ◌∙◌, arith}
 use Rattle.fut_types.specs.declared.Head.TheVariants as head
 use Rattle.fut_types.specs.Types.{Ty, Var, Made, Tys, none, more, fun_ty}
 use Rattle.sized_types.specs.Sizes.{Free, Dim, Size, Sizes, erased, all_erased}
-use Rattle.fut_sizes.specs.Agreeing.{of_type, of_types, in_frame, type_levels}
+use Rattle.fut_sizes.specs.Agreeing.{of_type, of_types, in_frame, type_levels, all_type_levels}
 use Rattle.fut_sizes.specs.Rules.{Each_hole, Each_holes}
-use Rattle.fut_sizes.specs.Suiting.{Each, Each_all, Scoped}
+use Rattle.fut_sizes.specs.Suiting.{Each, Each_all, Scoped, Of_positions}
 use Rattle.sizes_meet_rules.specs.Known.{Formed, All_formed}
 use Rattle.sizes_meet_rules.specs.Plain.{Formed_type, Formed_types}
+
+-- its levels are at the positions that the caller chooses
+module _ (Q : ℕ → Type 0) where
+  mutual
+    unfolding of_type of_types Formed_type Formed_types Each Each_all type_levels all_type_levels
+
+    of_type_low : (dims : ℕ → Dim) (t : Ty) (i j : ℕ) → 1 ≤ j → Formed_type t → ((m : ℕ) → m < i + type_levels t → Of_positions Q j (dims m)) → Each (Of_positions Q) j (of_type dims i t)
+    of_type_low dims (Var v) i j l f h = absurd f
+    of_type_low dims (Made (head.Rigid b k) ts) i j l f h = absurd f
+    of_type_low dims (Made head.Array none) i j l f h = absurd f
+    of_type_low dims (Made head.Array (more t none)) i j l f h = (h i (omega arith), of_type_low dims t (suc i) j l f (λ m x. h m (omega (arith, x))))
+    of_type_low dims (Made head.Array (more t (more u us))) i j l f h = absurd f
+    of_type_low dims (Made head.Fun none) i j l f h = absurd f
+    of_type_low dims (Made head.Fun (more p none)) i j l f h = absurd f
+    of_type_low dims (Made head.Fun (more p (more r none))) i j l f h = (
+      of_type_low (in_frame 0) p 0 (suc j) (omega arith) f.0 (λ m x e. absurd (omega (arith, e, l))),
+      of_type_low (in_frame (suc (type_levels p))) r 0 (suc j) (omega arith) f.1 (λ m x e. absurd (omega (arith, e, l))),
+    )
+    of_type_low dims (Made head.Fun (more p (more r (more t ts)))) i j l f h = absurd f
+    of_type_low dims (Made (head.Scalar s) none) i j l f h = tt
+    of_type_low dims (Made (head.Scalar s) (more t ts)) i j l f h = absurd f
+    of_type_low dims (Made head.Tuple ts) i j l f h = of_types_low dims ts i j l f h
+    of_type_low dims (Made (head.Record n) ts) i j l f h = of_types_low dims ts i j l f h
+    of_type_low dims (Made (head.Abstract n d) ts) i j l f h = of_types_low dims ts i j l f h
+
+    of_types_low : (dims : ℕ → Dim) (ts : Tys) (i j : ℕ) → 1 ≤ j → Formed_types ts → ((m : ℕ) → m < i + all_type_levels ts → Of_positions Q j (dims m)) → Each_all (Of_positions Q) j (of_types dims i ts)
+    of_types_low dims none i j l f h = tt
+    of_types_low dims (more t ts) i j l f h = (of_type_low dims t i j l f.0 (λ m x. h m (omega (arith, x))), of_types_low dims ts (type_levels t + i) j l f.1 (λ m x. h m (omega (arith, x))))
 
 module _ (P : Free → Type 0) where
   pub record Owned (j : ℕ) (t : Size) (u : Ty) : Type 0 where
@@ -36,7 +64,7 @@ module _ (P : Free → Type 0) where
     of_type_owned dims (Made head.Fun (more p (more r none))) i j f h =
         let a = of_type_owned (in_frame 0) p 0 (suc j) f.0 (λ i. omega arith) in
         let b = of_type_owned (in_frame (suc (type_levels p))) r 0 (suc j) f.1 (λ i. omega arith) in
-        record { sizes = (a.sizes, b.sizes); typed = ap (λ x. fun_ty x (erased (of_type (in_frame (suc (type_levels p))) 0 r))) a.typed ∙ ap (fun_ty p) b.typed; formed = (a.formed, b.formed); variables = (a.variables, b.variables) }
+        record { sizes = (a.sizes, b.sizes); typed = ap (λ x. fun_ty x (erased (of_type (in_frame (suc (type_levels p))) 0 r))) a.typed ∙ ap (fun_ty p) b.typed; formed = (a.formed, b.formed, of_type_low (λ m. m < type_levels p) (in_frame 0) p 0 1 (omega arith) f.0 (λ m x e. omega (arith, x))); variables = (a.variables, b.variables) }
     of_type_owned dims (Made head.Fun (more p (more r (more t ts)))) i j f h = absurd f
     of_type_owned dims (Made (head.Scalar s) none) i j f h = record { sizes = tt; typed = refl; formed = (tt, tt); variables = tt }
     of_type_owned dims (Made (head.Scalar s) (more t ts)) i j f h = absurd f

@@ -65,6 +65,23 @@ module _ (ok ok' : ℕ → Dim → Type 0) where
     all_each_both no_size j h k = tt
     all_each_both (size_and t ts) j h k = (each_both t j h.0 k.0, all_each_both ts j h.1 k.1)
 
+-- ---- what holds where dims are replaced
+
+module _ (g : ℕ → Dim → Dim) (ok : ℕ → Dim → Type 0) where
+  mutual
+    unfolding Each Each_all replaced all_replaced
+
+    pub each_back : (t : Size) (j : ℕ) → Each ok j (replaced g j t) → Each (λ i d. ok i (g i d)) j t
+    each_back (Hole v) j h = tt
+    each_back (Open n v u) j h = tt
+    each_back (Level d t) j h = (h.0, each_back t j h.1)
+    each_back (Built k ts) j h = all_each_back ts j h
+    each_back (Fun k p r) j h = (each_back p (suc j) h.0, each_back r (suc j) h.1)
+
+    all_each_back : (ts : Sizes) (j : ℕ) → Each_all ok j (all_replaced g j ts) → Each_all (λ i d. ok i (g i d)) j ts
+    all_each_back no_size j h = tt
+    all_each_back (size_and t ts) j h = (each_back t j h.0, all_each_back ts j h.1)
+
 -- ---- what replaces no dim, and what is put back
 
 module _ (g : ℕ → Dim → Dim) where

@@ -129,51 +129,51 @@ leaves_behind k j ds outer e l i d = ap (λ xs. behind k j xs outer i d) e ∙ a
     here m (At x) = refl
     here m (Bound a b) = by_frame a b (nat_eq a m) (nat_lt b k)
 
-module _ (n : ℕ) where
-  by_free : (x : Free) → is_slot x ≡ false → At (unknown_slot n x) ≡ At x
+module _ (maker : ℕ → ℕ) where
+  by_free : (x : Free) → is_slot x ≡ false → At (unknown_slot maker x) ≡ At x
   by_free (Slot i) o = absurd (let z : true ≡ false = o in cc)
   by_free (Const c) o = refl
   by_free (Name c) o = refl
   by_free (Own c i) o = refl
   by_free (Unknown c i) o = refl
 
-  not_renamed : (j i : ℕ) (d : Dim) → Scoped Is_settled j d → renaming (unknown_slot n) i d ≡ d
+  not_renamed : (j i : ℕ) (d : Dim) → Scoped Is_settled j d → renaming (unknown_slot maker) i d ≡ d
   not_renamed j i (At x) o = by_free x o
   not_renamed j i (Bound k b) o = refl
 
   mutual
     unfolding Each Each_all
 
-    depth : (t : Size) (j i : ℕ) → Each (Scoped Is_settled) j t → Each (λ i d. renaming (unknown_slot n) i d ≡ d) i t
+    depth : (t : Size) (j i : ℕ) → Each (Scoped Is_settled) j t → Each (λ i d. renaming (unknown_slot maker) i d ≡ d) i t
     depth (Hole v) j i h = tt
     depth (Open m v u) j i h = tt
     depth (Level d t) j i h = (not_renamed j i d h.0, depth t j i h.1)
     depth (Built g ts) j i h = all_depth ts j i h
     depth (Fun k p r) j i h = (depth p (suc j) (suc i) h.0, depth r (suc j) (suc i) h.1)
 
-    all_depth : (ts : Sizes) (j i : ℕ) → Each_all (Scoped Is_settled) j ts → Each_all (λ i d. renaming (unknown_slot n) i d ≡ d) i ts
+    all_depth : (ts : Sizes) (j i : ℕ) → Each_all (Scoped Is_settled) j ts → Each_all (λ i d. renaming (unknown_slot maker) i d ≡ d) i ts
     all_depth no_size j i h = tt
     all_depth (size_and t ts) j i h = (depth t j i h.0, all_depth ts j i h.1)
 
-  no_unknown : (t : Size) (j : ℕ) → Each (Scoped Is_settled) j t → replaced (renaming (unknown_slot n)) 0 t ≡ t
-  no_unknown t j h = not_replaced (renaming (unknown_slot n)) t 0 (depth t j 0 h)
+  pub no_unknown : (t : Size) (j : ℕ) → Each (Scoped Is_settled) j t → replaced (renaming (unknown_slot maker)) 0 t ≡ t
+  no_unknown t j h = not_replaced (renaming (unknown_slot maker)) t 0 (depth t j 0 h)
 
-module _ (n : ℕ) where
-  unchosen_in : (outer : ℕ → Dim → Dim) (t : Size) (j i : ℕ) → Leaves outer → Each (Scoped Is_settled) i t → chosen_in n outer j t ≡ t
+module _ (maker : ℕ → ℕ) where
+  unchosen_in : (outer : ℕ → Dim → Dim) (t : Size) (j i : ℕ) → Leaves outer → Each (Scoped Is_settled) i t → chosen_in maker outer j t ≡ t
   unfolding chosen_in Each replaced
   unchosen_in outer (Fun k p r) j i l h =
       let same = untouched outer l p (suc j) in
       let none : sizes_in is_slot (replaced outer (suc j) p) ≡ [] = ap (sizes_in is_slot) same ∙ no_slots p (suc i) h.0 in
       let still = leaves_behind k j (sizes_in is_slot (replaced outer (suc j) p)) outer none l in
-      ap (λ m. Fun m (replaced (behind k j (sizes_in is_slot (replaced outer (suc j) p)) outer) (suc j) p) (chosen_in n (behind k j (sizes_in is_slot (replaced outer (suc j) p)) outer) (suc j) r)) (ap (λ (xs : List Free). length xs + k) none ∙ (let z : 0 + k ≡ k = omega arith in z))
-      ∙ ap (λ x. Fun k x (chosen_in n (behind k j (sizes_in is_slot (replaced outer (suc j) p)) outer) (suc j) r)) (untouched (behind k j (sizes_in is_slot (replaced outer (suc j) p)) outer) still p (suc j))
+      ap (λ m. Fun m (replaced (behind k j (sizes_in is_slot (replaced outer (suc j) p)) outer) (suc j) p) (chosen_in maker (behind k j (sizes_in is_slot (replaced outer (suc j) p)) outer) (suc j) r)) (ap (λ (xs : List Free). length xs + k) none ∙ (let z : 0 + k ≡ k = omega arith in z))
+      ∙ ap (λ x. Fun k x (chosen_in maker (behind k j (sizes_in is_slot (replaced outer (suc j) p)) outer) (suc j) r)) (untouched (behind k j (sizes_in is_slot (replaced outer (suc j) p)) outer) still p (suc j))
       ∙ ap (Fun k p) (unchosen_in (behind k j (sizes_in is_slot (replaced outer (suc j) p)) outer) r (suc j) (suc i) still h.1)
   unchosen_in outer (Hole v) j i l h = refl
   unchosen_in outer (Open m v u) j i l h = refl
-  unchosen_in outer (Level d t) j i l h = ap (renamed (unknown_slot n)) (untouched outer l (Level d t) j) ∙ no_unknown n (Level d t) i h
-  unchosen_in outer (Built g ts) j i l h = ap (renamed (unknown_slot n)) (untouched outer l (Built g ts) j) ∙ no_unknown n (Built g ts) i h
+  unchosen_in outer (Level d t) j i l h = ap (renamed (unknown_slot maker)) (untouched outer l (Level d t) j) ∙ no_unknown maker (Level d t) i h
+  unchosen_in outer (Built g ts) j i l h = ap (renamed (unknown_slot maker)) (untouched outer l (Built g ts) j) ∙ no_unknown maker (Built g ts) i h
 
-  pub none_quantified : (t : Size) → Each (Scoped Is_settled) 0 t → quantified n t ≡ t
+  pub none_quantified : (t : Size) → Each (Scoped Is_settled) 0 t → quantified maker t ≡ t
   unfolding quantified
   none_quantified t h = unchosen_in (λ j d. d) t 0 0 (λ i d. refl) h
 
@@ -183,7 +183,10 @@ abbrev pub noted : ℕ → Size → State → Done Size
 noted n t st = record { result = t; state = record { nodes = at_node n t st.nodes; dropped = st.dropped } }
 
 module _ (N : Names) (types : Sub) where
-  finished_as : (lo : ℕ) (t : Size) (st : State) → finished N types lo (whole t) st ≡ Ok (noted lo (quantified lo (read (all_settled (read nothing_found (in_opened none_opened t)) nothing_found) (read nothing_found (in_opened none_opened t)))) st)
+  abbrev as_read : Size → Size
+  as_read t = read nothing_found (in_opened none_opened t)
+
+  finished_as : (lo : ℕ) (t : Size) (st : State) → finished N types lo (whole t) st ≡ Ok (noted lo (quantified (all_settled (as_read t) nothing_found).maker (read (all_settled (as_read t) nothing_found) (as_read t))) st)
   unfolding applied all_matched data_met functions_met closed
   finished_as lo t st = refl
 
@@ -193,5 +196,5 @@ module _ (N : Names) (types : Sub) where
       opened_now : read nothing_found (in_opened none_opened t) ≡ t
       opened_now = ap (read nothing_found) (nothing_opened t c) ∙ nothing_read t o
 
-      now : quantified lo (read (all_settled (read nothing_found (in_opened none_opened t)) nothing_found) (read nothing_found (in_opened none_opened t))) ≡ t
-      now = ap (λ u. quantified lo (read (all_settled u nothing_found) u)) opened_now ∙ ap (λ σ. quantified lo (read σ t)) (nothing_settled t nothing_found o) ∙ ap (quantified lo) (nothing_read t o) ∙ none_quantified lo t c
+      now : quantified (all_settled (as_read t) nothing_found).maker (read (all_settled (as_read t) nothing_found) (as_read t)) ≡ t
+      now = ap (λ u. quantified (all_settled u nothing_found).maker (read (all_settled u nothing_found) u)) opened_now ∙ ap (λ (σ : Found). quantified σ.maker (read σ t)) (nothing_settled t nothing_found o) ∙ ap (quantified nothing_found.maker) (nothing_read t o) ∙ none_quantified nothing_found.maker t c

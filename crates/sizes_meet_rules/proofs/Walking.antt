@@ -1,49 +1,48 @@
 -- Each term of these forms meets the rules where it is sized.
-use Rattle.std.proofs.Common.{◌≡◌, ◌⊎◌, ℕ, ◌+◌, ◌<◌, ◌≤◌, List, [], ◌∷◌, ◌++◌, Bool, true, false, Option, Some, None, Ok, refl, sym, ap, ◌∙◌, subst, arith, inl, inr}
+use Rattle.std.proofs.Common.{◌≡◌, ◌⊎◌, ℕ, suc, ◌+◌, ◌<◌, ◌≤◌, List, [], ◌∷◌, ◌++◌, Bool, true, false, Option, Some, None, Ok, refl, sym, ap, ◌∙◌, subst, arith, inl, inr}
 use Rattle.fut_scalar.specs.declared.place.BindId.{BindId}
 use Rattle.fut_scalar.specs.declared.place.Place.{Place}
 use Rattle.fut_flat.specs.declared.prim.Ref.{Ref}
 use Rattle.fut_flat.specs.declared.prim.Ref.TheVariants as ref
-use Rattle.fut_flat.specs.Numbers.{pattern_numbers, all_pattern_numbers, own_numbers, numbers, all_numbers}
-use Rattle.fut_flat.specs.Terms.{Size_term, Size_use, Array_type, Unique_type, Tuple_type, Type_terms, no_type, type_and, Coerce, Declared, Bound_pattern, Wild_pattern, Tuple_pattern, Record_pattern, Typed_pattern, Patterns, no_pattern, pattern_and, Parameter, Binding, Operation, Binary, Project, Use, Strict, Lambda, Apply, Let, If, Loop, Terms, no_term, term_and}
-use Rattle.fut_flat.specs.Erased.{FlatTerm, FlatPattern, FlatType}
+use Rattle.fut_flat.specs.Numbers.{pattern_numbers, all_pattern_numbers, own_numbers, numbers, all_numbers, turn_numbers}
+use Rattle.fut_flat.specs.Terms.{Coerce, Declared, Patterns, no_pattern, pattern_and, Parameter, Binding, Operation, Binary, Project, Use, Strict, Lambda, Apply, Let, If, Loop, Terms, no_term, term_and, Counted, Over, While}
+use Rattle.fut_flat.specs.Erased.{FlatTerm, FlatTurns, FlatPattern}
 use Rattle.fut_types.specs.declared.Kind.{Kind}
-use Rattle.fut_types.specs.Types.{Ty, Tys, none, more, Sub, Kinds, HasKind, rank, level}
+use Rattle.fut_types.specs.Types.{more, Sub, Kinds, HasKind, rank, level}
 use Rattle.fut_typing.specs.Names.{Names}
-use Rattle.fut_typing.specs.Patterns.{pattern_types, arrows, with_pattern as typed_with, with_patterns as all_typed_with}
-use Rattle.fut_typing.specs.Scopes.{Scope as TypeScope, the_one, IsSize, Denotes, All_denote}
-use Rattle.fut_typing.specs.Primitives.{i64_ty}
+use Rattle.fut_typing.specs.Patterns.{pattern_types, arrows, Pattern_typed, with_pattern as typed_with, with_patterns as all_typed_with}
+use Rattle.fut_typing.specs.Scopes.{Scope as TypeScope, the_one}
 use Rattle.fut_typing.specs.Rules.{Rule, Written}
 use Rattle.fut_typing.specs.Typing.{operand, term_types, Typed, All_typed}
-use Rattle.sized_types.specs.Sizes.{Free, Const, Name, Own, Unknown, Slot, Variable, Size, Sizes, no_size, size_and, erased, all_erased}
-use Rattle.fut_sizes.specs.Agreeing.{Answer, kept, leaving}
-use Rattle.fut_sizes.specs.Applications.{Want, Met, Part, whole}
+use Rattle.sized_types.specs.Sizes.{Free, Const, Name, Own, Unknown, Slot, Variable, Size, Sizes, no_size, size_and, erased, all_erased, levels}
+use Rattle.fut_sizes.specs.Agreeing.{is_among, Answer, kept, leaving}
+use Rattle.fut_sizes.specs.Applications.{Want, Met, Argument, Part, Applied, Waiting, whole}
 use Rattle.fut_sizes.specs.Operations.{operation}
 use Rattle.fut_sizes.specs.Rules.{Outside, Takes, Away, part_sizes, Branches, Sized, All_sized}
 use Rattle.fut_sizes.specs.Compositions.{composition}
-use Rattle.fut_sizes.specs.Scopes.{Known, Scope, names, taken, bound_by}
+use Rattle.fut_sizes.specs.Scopes.{Known, Scope, names, Taken, bound_by}
 use Rattle.fut_sizes.specs.Scoping.{Context}
-use Rattle.fut_sizes.specs.Sizing.{finished, use_known, second_noted, has_parameters, let_scope, pattern_noted, composed_or, wanted_size, all_part_names, all_entered, none_left, matched, parameters_noted, sized, all_sized}
+use Rattle.fut_sizes.specs.Sizing.{finished, use_known, second_noted, has_parameters, let_scope, pattern_noted, composed_or, wanted_size, all_part_names, leaving_function, all_entered, none_left, matched, parameters_noted, sized, all_sized, turns_sized, turns_from}
 use Rattle.fut_sizes.specs.Steps.{State, Done, Step, give, ask, and_then, note}
-use Rattle.fut_sizes.specs.Suiting.{Scoped, Data, Suits, suits_same}
+use Rattle.fut_sizes.specs.Suiting.{Each, Scoped, Data, Suits, suits_same}
 use Rattle.sizes_meet_rules.specs.Known.{Says, Is_const, Known_name, Known_names, Judged, Elsewhere}
-use Rattle.sizes_meet_rules.specs.Plain.{Plain_pattern, Plain_patterns, Plain_operation, Plain_term, Plain_terms}
+use Rattle.sizes_meet_rules.specs.Plain.{Is_lambda, Is_bound, Plain_pattern, Plain_operation, Plain_term, Plain_terms}
 use Rattle.sizes_meet_rules.proofs.Replacing.{all_each_as}
 use Rattle.sizes_meet_rules.proofs.Forming.{data_of, erased_kept, formed_kept, variables_kept, sizes_kept}
-use Rattle.sizes_meet_rules.proofs.Meeting.{then_ok, asked, same_ok, at_itself, at_another, Met_in, With_met, each_scoped, met_wider, met_outside, says_more, scoped_as, elsewhere_narrower, away_of, Inner, Meets, Part_meets, finished_meets}
-use Rattle.sizes_meet_rules.proofs.Binding.{leaves, Behind, value_behind, behind_elsewhere, let_meets}
+use Rattle.sizes_meet_rules.proofs.Meeting.{then_ok, asked, same_ok, at_itself, at_another, Met_in, With_met, each_scoped, met_wider, met_settled, met_outside, says_more, says_settled, scoped_as, elsewhere_narrower, away_of, Inner, Meets, Part_meets, function_knows}
+use Rattle.sizes_meet_rules.proofs.Showing.{own_some, numbers_some, Law_of, alone, bound_ran, sizes_written}
+use Rattle.sizes_meet_rules.proofs.Looping.{Law_turns, Loop_ran, Loop_meets, loop_meets}
+use Rattle.sizes_meet_rules.proofs.Binding.{leaves, Behind, value_behind, function_behind, behind_elsewhere, let_meets}
+use Rattle.sizes_meet_rules.proofs.Taking.{bound_scope, Pattern_ran, name_taken, taken_is, noted_is}
 use Rattle.sizes_meet_rules.proofs.Entering.{takings, all_bound, own_nodes_as, Lambda_ran, lambda_ran}
+use Rattle.sizes_meet_rules.proofs.Applying.{apply_part}
 use Rattle.sizes_meet_rules.proofs.Parameters.{Rest, all_rest}
+use Rattle.sizes_meet_rules.proofs.Functions.{Unmet, met_between}
 use Rattle.fut_sizes.specs.Functions.{function_size, unchosen}
-use Rattle.fut_sizes.specs.Matching.{Found}
-use Rattle.sizes_meet_rules.proofs.Naming.{bound_scope, known_with}
+use Rattle.fut_sizes.specs.Matching.{Found, nothing_found, counted}
+use Rattle.sizes_meet_rules.proofs.Naming.{known_with}
 use Rattle.sizes_meet_rules.proofs.Settling.{noted}
-use Rattle.sizes_meet_rules.proofs.Operating.{All_say, none_say, more_say, Gives, Size_written, Sizes_written, All_sizes_written, Written_named, Size_named, Sizes_named, number_is, operation_gives}
-
-own_some : (o : Operation Ref BindId) → 1 ≤ own_numbers o
-own_some (Binary op) = omega arith
-own_some (Project f) = omega arith
-own_some o = omega arith
+use Rattle.sizes_meet_rules.proofs.Operating.{All_say, none_say, more_say, Gives, Written_named, Size_named, Sizes_named, number_is, operation_gives}
 
 second_apart : (lo n : ℕ) → (n < lo) ⊎ (lo + 2 ≤ n) → 1 + lo ≡ n → ⊥
 second_apart lo n (inl x) q = omega (arith, x, q)
@@ -53,6 +52,9 @@ module _ (N : Names) (types : Sub) where
   tt_state : (w : Done (Unit {0})) (s : State) → ◌≡◌ {A = Answer (Done (Unit {0}))} (Ok (record { result = tt; state = s })) (Ok w) → (n : ℕ) → w.state.nodes n ≡ s.nodes n
   tt_state w s z n = ap (λ (x : Done (Unit {0})). x.state.nodes n) (sym (same_ok z))
 
+  tt_dropped : (w : Done (Unit {0})) (s : State) → ◌≡◌ {A = Answer (Done (Unit {0}))} (Ok (record { result = tt; state = s })) (Ok w) → (n : ℕ) → w.state.dropped n ≡ s.dropped n
+  tt_dropped w s z n = ap (λ (x : Done (Unit {0})). x.state.dropped n) (sym (same_ok z))
+
   -- what an operation notes beside its result
   second_kept : (o : Operation Ref BindId) (lo : ℕ) (us : Sizes) (s : State) (w : Done (Unit {0})) → second_noted N types o lo us s ≡ Ok w → (n : ℕ) → (n < lo) ⊎ (lo + own_numbers o ≤ n) → w.state.nodes n ≡ s.nodes n
   second_kept (Binary op) lo (size_and t ts) s w z n o = tt_state w (noted (1 + lo) t s).state z n ∙ at_another (1 + lo) n t s.nodes (λ q. second_apart lo n o q)
@@ -60,6 +62,13 @@ module _ (N : Names) (types : Sub) where
   second_kept (Binary op) lo no_size s w z n o = tt_state w s z n
   second_kept (Project f) lo no_size s w z n o = tt_state w s z n
   second_kept o lo us s w z n y = tt_state w s z n
+
+  second_dropped : (o : Operation Ref BindId) (lo : ℕ) (us : Sizes) (s : State) (w : Done (Unit {0})) → second_noted N types o lo us s ≡ Ok w → (n : ℕ) → w.state.dropped n ≡ s.dropped n
+  second_dropped (Binary op) lo (size_and t ts) s w z n = tt_dropped w (noted (1 + lo) t s).state z n
+  second_dropped (Project f) lo (size_and t ts) s w z n = tt_dropped w (noted (1 + lo) t s).state z n
+  second_dropped (Binary op) lo no_size s w z n = tt_dropped w s z n
+  second_dropped (Project f) lo no_size s w z n = tt_dropped w s z n
+  second_dropped o lo us s w z n = tt_dropped w s z n
 
 module _ (N : Names) (types : Sub) (home : ℕ → ℕ) (K : Kinds) (places : Kind) (data_places : 1 ≤ level places) where
   module _ (In : Free → Type 0) (Vars : Variable → Type 0) (scope : Scope) where
@@ -71,6 +80,7 @@ module _ (N : Names) (types : Sub) (home : ℕ → ℕ) (K : Kinds) (places : Ki
       say : All_say (With_met In lo hi) Vars us
       typed : all_erased us ≡ term_types types ts lo
       kept : (n : ℕ) → (n < lo) ⊎ (hi ≤ n) → after.nodes n ≡ st.nodes n
+      dropped : (n : ℕ) → (n < lo) ⊎ (hi ≤ n) → after.dropped n ≡ st.dropped n
       rules : (s : ℕ → Size) (G : Context) → Judged In Vars scope G → ((n : ℕ) → lo ≤ n → n < hi → s n ≡ after.nodes n) → All_sized N types s home ts lo hi G × (part_sizes N types s home ts lo ≡ us)
 
     abbrev Part_of : FlatTerm → ℕ → State → Done Part → Type 0
@@ -86,7 +96,7 @@ module _ (N : Names) (types : Sub) (home : ℕ → ℕ) (K : Kinds) (places : Ki
 
     no_parts : (lo : ℕ) (st : State) → Parts_meet no_term lo (lo + 0) st no_size st
     unfolding all_erased
-    no_parts lo st = record { say = none_say (With_met In lo (lo + 0)) Vars; typed = refl; kept = λ n o. refl; rules = λ s G J a. (tt, refl) }
+    no_parts lo st = record { say = none_say (With_met In lo (lo + 0)) Vars; typed = refl; kept = λ n o. refl; dropped = λ n o. refl; rules = λ s G J a. (tt, refl) }
 
     more_parts : (t : FlatTerm) (ts : Terms Ref BindId) (lo mid hi from to : ℕ) (st s1 s2 : State) (u : Size) (us : Sizes) → lo + numbers t ≡ mid → lo < mid → mid ≤ hi → from ≤ lo → hi ≤ to → Elsewhere N types home from to In
         → M t lo mid st u s1 → Parts_meet ts mid hi s1 us s2 → Parts_meet (term_and t ts) lo hi st (size_and u us) s2
@@ -95,6 +105,7 @@ module _ (N : Names) (types : Sub) (home : ℕ → ℕ) (K : Kinds) (places : Ki
       say = more_say (With_met In lo hi) Vars u us (says_more (With_met In lo mid) (With_met In lo hi) Vars u (λ d. wide lo mid d (omega arith) l') X.says) (all_wider us Y.say);
       typed = ap (λ x. more x (all_erased us)) X.typed ∙ ap (more (types lo)) (Y.typed ∙ ap (term_types types ts) (sym m));
       kept = λ n o. Y.kept n (later n o) ∙ X.kept n (sooner n o);
+      dropped = λ n o. Y.dropped n (later n o) ∙ X.dropped n (sooner n o);
       rules = rules;
     }
       where
@@ -131,6 +142,7 @@ module _ (N : Names) (types : Sub) (home : ℕ → ℕ) (K : Kinds) (places : Ki
       says = says;
       typed = erased_kept lo u x 0 ∙ Y.typed ∙ sym t1;
       kept = λ n o. Z.kept n (by_third n o) ∙ Y.kept n (by_second n o) ∙ X.kept n (by_first n o);
+      dropped = λ n o. Z.dropped n (by_third n o) ∙ Y.dropped n (by_second n o) ∙ X.dropped n (by_first n o);
       rules = rules;
     }
       where
@@ -188,12 +200,13 @@ module _ (N : Names) (types : Sub) (home : ℕ → ℕ) (K : Kinds) (places : Ki
 
     -- ---- operations
     strict_meets : (o : Operation Ref BindId) (mark : Place) (ts : Terms Ref BindId) (lo at hi : ℕ) (st s1 s2 : State) (us : Sizes) (t : Size) (w : Done (Unit {0})) → lo + own_numbers o ≡ at → lo < at → at + all_numbers ts ≡ hi → Elsewhere N types home lo hi In
-        → Plain_operation o (types lo) ts → Rule N places K o (types lo) (types (operand o lo)) (term_types types ts at)
+        → Plain_operation N o (types lo) ts → Rule N places K o (types lo) (types (operand o lo)) (term_types types ts at)
         → Parts_meet ts at hi st us s1 → Written_named N types K places (With_met In lo hi) Vars (λ c. inr tt) o → Sizes_named N types K places (With_met In lo hi) Vars (λ c. inr tt) ts at → operation N types o lo at ts us ≡ Ok t → second_noted N types o lo us s1 ≡ Ok w → Inner N types home In Vars scope (Strict o mark ts) lo hi st t w.state
     strict_meets o mark ts lo at hi st s1 s2 us t w m l m2 E p r X written named q z = record {
       says = gives.says;
       typed = gives.typed;
       kept = λ n y. second_kept N types o lo us s1 w z n (outside n y) ∙ X.kept n (before n y);
+      dropped = λ n y. second_dropped N types o lo us s1 w z n ∙ X.dropped n (before n y);
       rules = rules;
     }
       where
@@ -223,33 +236,11 @@ module _ (N : Names) (types : Sub) (home : ℕ → ℕ) (K : Kinds) (places : Ki
 
   -- ---- the walk
 
-  numbers_some : (e : FlatTerm) → 1 ≤ numbers e
-  numbers_some (Use r at k) = omega arith
-  numbers_some (Strict o mark ts) = let l = own_some o in omega (arith, l)
-  numbers_some (Lambda ps e) = omega arith
-  numbers_some (Apply f e) = omega arith
-  numbers_some (Let b v e) = omega arith
-  numbers_some (If c a b) = omega arith
-  numbers_some (Loop mark sizes p first turns body) = omega arith
-
-  pattern_some : (p : FlatPattern) → 1 ≤ pattern_numbers p
-  pattern_some (Bound_pattern b) = omega arith
-  pattern_some Wild_pattern = omega arith
-  pattern_some (Tuple_pattern ps) = omega arith
-  pattern_some (Record_pattern fs ps) = omega arith
-  pattern_some (Typed_pattern p t) = pattern_some p
-
-  abbrev pub Law : FlatTerm → Type 1
-  Law e = (In : Free → Type 0) (Vars : Variable → Type 0) (scope : Scope) (T : TypeScope) (lo : ℕ) (st : State) (d : Done Part) → Plain_term types home K places e lo → Typed N places e lo T K types → Known_names In Vars scope K types T
-      → Elsewhere N types home lo (lo + numbers e) In → sized N types e [] lo scope st ≡ Ok d → Part_meets N types home In Vars scope e lo (lo + numbers e) st d.result d.state
-
-  -- by itself
-  pub alone : (e : FlatTerm) → Law e → (In : Free → Type 0) (Vars : Variable → Type 0) (scope : Scope) (T : TypeScope) (lo : ℕ) (st : State) (d : Done Part) (u : Done Size) → Plain_term types home K places e lo → Typed N places e lo T K types → Known_names In Vars scope K types T
-      → Elsewhere N types home lo (lo + numbers e) In → sized N types e [] lo scope st ≡ Ok d → finished N types lo d.result d.state ≡ Ok u → Meets N types home In Vars scope e lo (lo + numbers e) st u.result u.state
-  alone e law In Vars scope T lo st d u p t k E q f = finished_meets N types home In Vars scope e lo (lo + numbers e) st d.result d.state u (let l = numbers_some e in omega (arith, l)) E (law In Vars scope T lo st d p t k E q) f
-
   narrower : (In : Free → Type 0) (lo hi lo' hi' : ℕ) → lo ≤ lo' → hi' ≤ hi → Elsewhere N types home lo hi In → Elsewhere N types home lo' hi' In
   narrower In lo hi lo' hi' a b E = elsewhere_narrower N types home lo hi lo' hi' In a b E
+
+  abbrev Law : FlatTerm → Type 1
+  Law e = Law_of N types home K places e
 
   use_part : (b : BindId) (at : Place) (k : ℕ) → Law (Use (ref.Bound b) at k)
   unfolding sized
@@ -260,6 +251,7 @@ module _ (N : Names) (types : Sub) (home : ℕ → ℕ) (K : Kinds) (places : Ki
       says = says_more In (With_met In lo (lo + numbers e)) Vars n.size (λ x i. inl i) n.says;
       typed = n.typed;
       kept = λ m o. refl;
+      dropped = λ m o. refl;
       rules = λ s G J e a. inl (n.size, J.sizes b.0 n.size n.known, subst (λ x. Suits n.size x) (sym e) suits_same);
     });
   })
@@ -284,9 +276,9 @@ module _ (N : Names) (types : Sub) (home : ℕ → ℕ) (K : Kinds) (places : Ki
       let x6 = then_ok (finished N types (1 + lo + numbers c + numbers a) x5.first.result x5.first.state) x5.rest in
       let n1 = numbers_some c in let n2 = numbers_some a in let n3 = numbers_some b in
       let hi : ℕ = lo + numbers (If c a b) in
-      let X = alone c lc In Vars scope T (1 + lo) st x1.first x2.first p.0 t.0.0.0 k (narrower In lo hi (1 + lo) (1 + lo + numbers c) (omega arith) (omega arith) E) x1.done x2.done in
-      let Y = alone a la In Vars scope T (1 + lo + numbers c) x2.first.state x3.first x4.first p.1 t.0.0.1 k (narrower In lo hi (1 + lo + numbers c) (1 + lo + numbers c + numbers a) (omega arith) (omega arith) E) x3.done x4.done in
-      let Z = alone b lb In Vars scope T (1 + lo + numbers c + numbers a) x4.first.state x5.first x6.first p.2 t.0.1 k (narrower In lo hi (1 + lo + numbers c + numbers a) (1 + lo + numbers c + numbers a + numbers b) (omega arith) (omega arith) E) x5.done x6.done in
+      let X = alone N types home K places c lc In Vars scope T (1 + lo) st x1.first x2.first p.0 t.0.0.0 k (narrower In lo hi (1 + lo) (1 + lo + numbers c) (omega arith) (omega arith) E) x1.done x2.done in
+      let Y = alone N types home K places a la In Vars scope T (1 + lo + numbers c) x2.first.state x3.first x4.first p.1 t.0.0.1 k (narrower In lo hi (1 + lo + numbers c) (1 + lo + numbers c + numbers a) (omega arith) (omega arith) E) x3.done x4.done in
+      let Z = alone N types home K places b lb In Vars scope T (1 + lo + numbers c + numbers a) x4.first.state x5.first x6.first p.2 t.0.1 k (narrower In lo hi (1 + lo + numbers c + numbers a) (1 + lo + numbers c + numbers a + numbers b) (omega arith) (omega arith) E) x5.done x6.done in
       let last : lo + numbers (If c a b) ≡ 1 + lo + numbers c + numbers a + numbers b = omega arith in
       let whole_if = if_meets In Vars scope c a b lo (1 + lo + numbers c) (1 + lo + numbers c + numbers a) (1 + lo + numbers c + numbers a + numbers b) st x2.first.state x4.first.state x6.first.state x2.first.result x4.first.result x6.first.result refl refl last
       (omega arith) (omega (arith, n2)) (omega (arith, n3)) (subst (λ n. Elsewhere N types home lo n In) last E) t.2 t.3 t.4 X Y Z in
@@ -299,7 +291,7 @@ module _ (N : Names) (types : Sub) (home : ℕ → ℕ) (K : Kinds) (places : Ki
   -- ---- operations
 
   abbrev Law_all : Terms Ref BindId → Type 1
-  Law_all ts = (In : Free → Type 0) (Vars : Variable → Type 0) (scope : Scope) (T : TypeScope) (lo : ℕ) (st : State) (d : Done Sizes) → Plain_terms types home K places ts lo → All_typed N places ts lo T K types → Known_names In Vars scope K types T
+  Law_all ts = (In : Free → Type 0) (Vars : Variable → Type 0) (scope : Scope) (T : TypeScope) (lo : ℕ) (st : State) (d : Done Sizes) → Plain_terms types home K places N ts lo → All_typed N places ts lo T K types → Known_names In Vars scope K types T
       → Elsewhere N types home lo (lo + all_numbers ts) In → all_sized N types ts lo scope st ≡ Ok d → Parts_meet In Vars scope ts lo (lo + all_numbers ts) st d.result d.state
 
   no_part : Law_all no_term
@@ -314,7 +306,7 @@ module _ (N : Names) (types : Sub) (home : ℕ → ℕ) (K : Kinds) (places : Ki
       let x3 = then_ok (all_sized N types es (lo + numbers e) scope x2.first.state) x2.rest in
       let hi : ℕ = lo + all_numbers (term_and e es) in
       let n1 = numbers_some e in
-      let X = alone e le In Vars scope T lo st x1.first x2.first p.0 t.0 k (narrower In lo hi lo (lo + numbers e) (omega arith) (omega arith) E) x1.done x2.done in
+      let X = alone N types home K places e le In Vars scope T lo st x1.first x2.first p.0 t.0 k (narrower In lo hi lo (lo + numbers e) (omega arith) (omega arith) E) x1.done x2.done in
       let Y = les In Vars scope T (lo + numbers e) x2.first.state x3.first p.1 t.1 k (narrower In lo hi (lo + numbers e) (lo + numbers e + all_numbers es) (omega arith) (omega arith) E) x3.done in
       let both = more_parts In Vars scope e es lo (lo + numbers e) (lo + numbers e + all_numbers es) lo hi st x2.first.state x3.first.state x2.first.result x3.first.result refl (omega (arith, n1)) (omega arith) (omega arith) (omega arith) E X Y in
       let last : lo + numbers e + all_numbers es ≡ hi = omega arith in
@@ -329,26 +321,9 @@ module _ (N : Names) (types : Sub) (home : ℕ → ℕ) (K : Kinds) (places : Ki
   parts_named no_term n In Vars scope T lo hi known t = tt
   parts_named (term_and e es) n In Vars scope T lo hi known t = (part_named e n In Vars scope T lo hi known t.0, parts_named es (n + numbers e) In Vars scope T lo hi known t.1)
 
-  -- written sizes are names of numbers in scope
-  size_written : (x : Size_term Ref BindId) (In : Free → Type 0) (Vars : Variable → Type 0) (scope : Scope) (T : TypeScope) (lo hi : ℕ) → Known_names In Vars scope K types T → IsSize T K types x → Size_written (With_met In lo hi) x
-  size_written (Size_use (ref.Bound b)) In Vars scope T lo hi known d = let w = known b.0 i64_ty d in inl (w.number (number_is w.size w.says.formed w.typed))
-  size_written x In Vars scope T lo hi known d = tt
-
-  mutual
-    sizes_written : (x : FlatType) (In : Free → Type 0) (Vars : Variable → Type 0) (scope : Scope) (T : TypeScope) (lo hi : ℕ) (u : Ty) → Known_names In Vars scope K types T → Denotes N places K types x T u → Sizes_written (With_met In lo hi) x
-    sizes_written (Array_type s x) In Vars scope T lo hi u known d = (size_written s In Vars scope T lo hi known d.0, sizes_written x In Vars scope T lo hi d.1.0 known d.1.1)
-    sizes_written (Unique_type x) In Vars scope T lo hi u known d = sizes_written x In Vars scope T lo hi u known d
-    sizes_written (Tuple_type xs) In Vars scope T lo hi u known d = all_sizes_written xs In Vars scope T lo hi d.0 known d.1
-    sizes_written x In Vars scope T lo hi u known d = tt
-
-    all_sizes_written : (xs : Type_terms Ref BindId) (In : Free → Type 0) (Vars : Variable → Type 0) (scope : Scope) (T : TypeScope) (lo hi : ℕ) (us : Tys) → Known_names In Vars scope K types T → All_denote N places K types xs T us → All_sizes_written (With_met In lo hi) xs
-    all_sizes_written no_type In Vars scope T lo hi us known d = tt
-    all_sizes_written (type_and x xs) In Vars scope T lo hi none known d = absurd d
-    all_sizes_written (type_and x xs) In Vars scope T lo hi (more u us) known d = (sizes_written x In Vars scope T lo hi u known d.0, all_sizes_written xs In Vars scope T lo hi us known d.1)
-
   written_named : (o : Operation Ref BindId) (n : ℕ) (In : Free → Type 0) (Vars : Variable → Type 0) (scope : Scope) (T : TypeScope) (lo hi : ℕ) → Known_names In Vars scope K types T → Written N places K o T types (types n) → Written_named N types K places (With_met In lo hi) Vars (λ c. inr tt) o
-  written_named (Coerce x) n In Vars scope T lo hi known d = sizes_written x In Vars scope T lo hi (types n) known d
-  written_named (Declared x) n In Vars scope T lo hi known d = sizes_written x In Vars scope T lo hi (types n) known d
+  written_named (Coerce x) n In Vars scope T lo hi known d = sizes_written N types K places In (With_met In lo hi) Vars (λ d i. inl i) x scope T (types n) known d
+  written_named (Declared x) n In Vars scope T lo hi known d = sizes_written N types K places In (With_met In lo hi) Vars (λ d i. inl i) x scope T (types n) known d
   written_named o n In Vars scope T lo hi known d = tt
 
   strict_part : (o : Operation Ref BindId) (mark : Place) (ts : Terms Ref BindId) → Law_all ts → Law (Strict o mark ts)
@@ -373,6 +348,16 @@ module _ (N : Names) (types : Sub) (home : ℕ → ℕ) (K : Kinds) (places : Ki
 
   -- ---- lets
 
+  abbrev lambda_waits : Patterns Ref BindId → FlatTerm → ℕ → Scope → Option Want → Found → Step Met
+  lambda_waits ps e lo scope w σ = and_then (ask (all_entered N types lo ps (1 + lo) (record { scope = scope; parameters = []; wanted = wanted_size w; found = σ }))) (λ E. and_then (ask (none_left N types (1 + lo + all_pattern_numbers ps) (unchosen [] E.parameters))) (λ z. and_then (parameters_noted N types E.parameters) (λ y.
+      and_then (sized N types e [] (1 + lo + all_pattern_numbers ps) E.scope) (λ part. and_then (finished N types (1 + lo + all_pattern_numbers ps) part) (λ body. and_then (ask (leaving_function lo (all_part_names ps) E.parameters body)) (λ r.
+      and_then (note lo (function_size [] lo (1 + lo + all_pattern_numbers ps + numbers e) E.parameters r)) (λ own. ask (matched N types lo w own E.found))))))))
+
+  lambda_waiting : (v : FlatTerm) → Is_lambda v → (lo : ℕ) (scope : Scope) (st : State) (d : Done Part) → sized N types v [] lo scope st ≡ Ok d → (f : Option Want → Found → Step Met) × (d.result ≡ Waiting f)
+  unfolding sized
+  lambda_waiting (Lambda (pattern_and x xs) e) i lo scope st d q = (lambda_waits (pattern_and x xs) e lo scope, ap (λ (x : Done Part). x.result) (sym (same_ok q)))
+  lambda_waiting v i lo scope st d q = absurd i
+
   not_composed : (o : Option Bool) (F : Bool → Step Part) (g : Step Part) (st : State) (d : Done Part) → o ≡ None → composed_or N types o F g st ≡ Ok d → g st ≡ Ok d
   not_composed None F g st d e q = q
   not_composed (Some b) F g st d e q = absurd (let z : Some b ≡ None = e in cc)
@@ -380,22 +365,8 @@ module _ (N : Names) (types : Sub) (home : ℕ → ℕ) (K : Kinds) (places : Ki
   abbrev a_let : List (Parameter BindId) → FlatPattern → Binding Ref BindId
   a_let parameters p = record { sizes = []; parameters = parameters; is_function = false; pattern = p }
 
-  -- what is noted of the pattern, and the scope behind it
-  one_noted : (p : FlatPattern) (q : ℕ) → Plain_pattern types home K places p q → (t : Size) (s : State) (w : Done (Unit {0})) → pattern_noted N types p q t s ≡ Ok w → w.state.nodes ≡ (noted q t s).state.nodes
-  unfolding pattern_noted
-  one_noted (Bound_pattern x) q l t s w e = ap (λ (d : Done (Unit {0})). d.state.nodes) (sym (same_ok e))
-  one_noted Wild_pattern q l t s w e = ap (λ (d : Done (Unit {0})). d.state.nodes) (sym (same_ok e))
-  one_noted (Tuple_pattern ps) q l t s w e = absurd l
-  one_noted (Record_pattern fs ps) q l t s w e = absurd l
-  one_noted (Typed_pattern p f) q l t s w e = absurd l
-
-  one_bound : (p : FlatPattern) (q at : ℕ) → Plain_pattern types home K places p q → (t : Size) (scope inner : Scope) → let_scope N types (a_let [] p) at t scope ≡ Ok inner → inner ≡ bound_scope p t scope
-  unfolding bound_by taken
-  one_bound (Bound_pattern x) q at l t scope inner e = sym (same_ok e)
-  one_bound Wild_pattern q at l t scope inner e = sym (same_ok e)
-  one_bound (Tuple_pattern ps) q at l t scope inner e = absurd l
-  one_bound (Record_pattern fs ps) q at l t scope inner e = absurd l
-  one_bound (Typed_pattern p f) q at l t scope inner e = absurd l
+  let_bound : (p : FlatPattern) (at : ℕ) (t : Size) (scope inner : Scope) → let_scope N types (a_let [] p) at t scope ≡ Ok inner → (k : Taken) × (bound_by N [] at p t scope ≡ Ok k) × (inner ≡ k.scope)
+  let_bound p at t scope inner e = let x1 = then_ok (bound_by N [] at p t scope) e in (x1.first, x1.done, sym (same_ok x1.rest))
 
   -- the steps of a let
   record Let_ran (p : FlatPattern) (v e : FlatTerm) (lo : ℕ) (scope : Scope) (st : State) (d : Done Part) : Type 0 where
@@ -509,43 +480,76 @@ module _ (N : Names) (types : Sub) (home : ℕ → ℕ) (K : Kinds) (places : Ki
       L = left_ran lo (names p ++ []) B.body.result B.body.state d B.rest
 
   module _ (p : FlatPattern) (v e : FlatTerm) (lv : Law v) (le : Law e) (In : Free → Type 0) (Vars : Variable → Type 0) (scope : Scope) (T : TypeScope) (lo mid at hi : ℕ) (m1 : 1 + lo + pattern_numbers p ≡ mid) (m2 : mid + numbers v ≡ at) (m3 : at + numbers e ≡ hi) (st : State) (d : Done Part) (R : Let_ran p v e lo scope st d) where
-    let_value : Plain_term types home K places v mid → Typed N places v mid T K types → Known_names In Vars scope K types T → Elsewhere N types home lo hi In → lo ≤ mid → Meets N types home In Vars scope v mid at st R.value.result R.value.state
-    let_value p t k E l = subst (λ n. Meets N types home In Vars scope v mid n st R.value.result R.value.state) m2 (alone v lv In Vars scope T mid st R.value_part R.value p t k (narrower In lo hi mid (mid + numbers v) l (omega (arith, m2, m3)) E)
+    let_value : Plain_term types home K places N v mid → Typed N places v mid T K types → Known_names In Vars scope K types T → Elsewhere N types home lo hi In → lo ≤ mid → Meets N types home In Vars scope v mid at st R.value.result R.value.state
+    let_value p t k E l = subst (λ n. Meets N types home In Vars scope v mid n st R.value.result R.value.state) m2 (alone N types home K places v lv In Vars scope T mid st R.value_part R.value p t k (narrower In lo hi mid (mid + numbers v) l (omega (arith, m2, m3)) E)
         (ap (λ n. sized N types v [] n scope st) (sym m1) ∙ R.value_sized) (ap (λ n. finished N types n R.value_part.result R.value_part.state) (sym m1) ∙ R.value_done))
 
     value_data : HasKind K places (types mid) → Meets N types home In Vars scope v mid at st R.value.result R.value.state → Data R.value.result
     value_data k X = data_of K R.value.result X.says.formed (let r : level places ≤ rank K (erased R.value.result) = subst (λ w. level places ≤ rank K w) (sym X.typed) k in omega (arith, r, data_places))
 
-    module _ (plain : Plain_pattern types home K places p (1 + lo)) (l : 1 + lo < mid) (l2 : mid < at) (l3 : at < hi) (E : Elsewhere N types home lo hi In) where
-      abbrev In' : Free → Type 0
-      In' = Behind N types home K places data_places In Vars scope p R.value.result lo mid at hi
+    function_value : Is_lambda v → Plain_term types home K places N v mid → Typed N places v mid T K types → Known_names In Vars scope K types T → Elsewhere N types home lo hi In → lo ≤ mid → Each (Scoped (λ x. In x ⊎ Is_const x)) 0 R.value.result
+    function_value i p t k E l = by_part (lv In Vars scope T mid st R.value_part p t k (narrower In lo hi mid (mid + numbers v) l (omega (arith, m2, m3)) E) value_sized)
+      where
+        value_sized : sized N types v [] mid scope st ≡ Ok R.value_part
+        value_sized = ap (λ n. sized N types v [] n scope st) (sym m1) ∙ R.value_sized
 
-      let_body : Meets N types home In Vars scope v mid at st R.value.result R.value.state → Data R.value.result → types (1 + lo) ≡ types mid → Known_names In Vars scope K types T
-          → Plain_term types home K places e at → Typed N places e at (typed_with the_one p (1 + lo) T) K types
-          → Meets N types home In' Vars (bound_scope p R.value.result scope) e at hi R.pattern.state R.body.result R.body.state
-      let_body X is_data t1 k pl t = subst (λ n. Meets N types home In' Vars (bound_scope p R.value.result scope) e at n R.pattern.state R.body.result R.body.state) m3
-          (alone e le In' Vars (bound_scope p R.value.result scope) (typed_with the_one p (1 + lo) T) at R.pattern.state R.body_part R.body pl t known
-          (subst (λ n. Elsewhere N types home at n In') (sym m3) (behind_elsewhere N types home K places data_places In Vars scope p R.value.result lo mid at hi plain l l2 l3 E))
+        waits : (f : Option Want → Found → Step Met) × (R.value_part.result ≡ Waiting f)
+        waits = lambda_waiting v i mid scope st R.value_part value_sized
+
+        not_applied : (x : Size) (b : Bool) (xs : List Argument) → R.value_part.result ≡ Applied x b xs → ⊥
+        not_applied x b xs e = let z : Waiting waits.0 ≡ Applied x b xs = sym waits.1 ∙ e in cc
+
+        by_part : Part_meets N types home In Vars scope v mid (mid + numbers v) st R.value_part.result R.value_part.state → Each (Scoped (λ x. In x ⊎ Is_const x)) 0 R.value.result
+        by_part (inl W) = absurd (not_applied W.size false [] W.is_whole)
+        by_part (inr (inl W)) = function_knows N types home In Vars scope v mid (mid + numbers v) st R.value_part.result R.value_part.state R.value W (ap (λ n. finished N types n R.value_part.result R.value_part.state) (sym m1) ∙ R.value_done)
+        by_part (inr (inr W)) = absurd (not_applied W.function false (W.argument ∷ []) W.is_applied)
+
+    module _ (plain : Plain_pattern types home K places p (1 + lo)) (S : TypeScope) (fits : Pattern_typed N places K types p (1 + lo) S) (l2 : mid < at) (l3 : at < hi) (E : Elsewhere N types home lo hi In) where
+      abbrev B : (k : Taken) × (bound_by N [] (1 + lo + pattern_numbers p) p R.value.result scope ≡ Ok k) × (R.inner ≡ k.scope)
+      B = let_bound p (1 + lo + pattern_numbers p) R.value.result scope R.inner R.scope_is
+
+      let_taken : Meets N types home In Vars scope v mid at st R.value.result R.value.state → Data R.value.result → types (1 + lo) ≡ types mid → Pattern_ran types home K places N p R.value.result (record { scope = scope; found = counted 0 nothing_found }) B.0
+      let_taken X is_data t1 = let settled = says_settled (With_met In mid at) Vars R.value.result (met_settled N types home In lo hi mid at E) X.says in
+          taken_is types home K places N (1 + lo + pattern_numbers p) p (1 + lo) S plain fits R.value.result is_data X.says.formed settled.0 settled.1 (X.typed ∙ sym t1) (record { scope = scope; found = counted 0 nothing_found }) B.0 (bound_ran N (1 + lo + pattern_numbers p) p R.value.result scope B.0 B.1)
+
+      abbrev In' : Free → Type 0
+      In' d = Behind N types home K places In Vars scope p R.value.result lo (1 + lo) mid at hi d
+
+      let_body : Meets N types home In Vars scope v mid at st R.value.result R.value.state → Says In' Vars R.value.result → types (1 + lo) ≡ types mid → Known_names In Vars scope K types T
+          → Pattern_ran types home K places N p R.value.result (record { scope = scope; found = counted 0 nothing_found }) B.0
+          → Plain_term types home K places N e at → Typed N places e at (typed_with the_one p (1 + lo) T) K types
+          → Meets N types home In' Vars (bound_scope N p R.value.result scope) e at hi R.pattern.state R.body.result R.body.state
+      let_body X says t1 k P pl t = subst (λ n. Meets N types home In' Vars (bound_scope N p R.value.result scope) e at n R.pattern.state R.body.result R.body.state) m3
+          (alone N types home K places e le In' Vars (bound_scope N p R.value.result scope) (typed_with the_one p (1 + lo) T) at R.pattern.state R.body_part R.body pl t known
+          (subst (λ n. Elsewhere N types home at n In') (sym m3) (behind_elsewhere N types home K places In Vars scope p R.value.result lo (1 + lo) mid at hi plain (omega arith) (omega (arith, m1, l2)) (omega (arith, l3)) E))
           (ap (λ w. sized N types e [] at w R.pattern.state) (sym inner) ∙ ap (λ n. sized N types e [] n R.inner R.pattern.state) now ∙ R.body_sized) (ap (λ n. finished N types n R.body_part.result R.body_part.state) now ∙ R.body_done))
         where
-          known : Known_names In' Vars (bound_scope p R.value.result scope) K types (typed_with the_one p (1 + lo) T)
-          known = known_with N types K places In In' Vars Vars (λ w i. inl i) (λ w i. i) home p (1 + lo) plain R.value.result scope T k
-              (value_behind N types home K places data_places In Vars scope p R.value.result lo mid at hi X.says is_data) (X.typed ∙ sym t1) (λ w i. inr (inr i))
+          known : Known_names In' Vars (bound_scope N p R.value.result scope) K types (typed_with the_one p (1 + lo) T)
+          known = known_with N types K places In' Vars home In Vars (λ w i. inl i) (λ w i. i) p (1 + lo) S plain fits R.value.result P.parts scope T k
+              says (X.typed ∙ sym t1) (λ w i. inr (inr i))
 
-          inner : R.inner ≡ bound_scope p R.value.result scope
-          inner = one_bound p (1 + lo) (1 + lo + pattern_numbers p) plain R.value.result scope R.inner R.scope_is
+          inner : R.inner ≡ bound_scope N p R.value.result scope
+          inner = B.2 ∙ P.scope
 
           now : at ≡ 1 + lo + pattern_numbers p + numbers v
           now = sym m2 ∙ ap (λ n. n + numbers v) (sym m1)
 
-      let_whole : HasKind K places (types mid) → types (1 + lo) ≡ types mid → types lo ≡ types at → Known_names In Vars scope K types T
-          → Plain_term types home K places v mid → Typed N places v mid T K types → Plain_term types home K places e at → Typed N places e at (typed_with the_one p (1 + lo) T) K types
+      let_known : HasKind K places (types mid) ⊎ (Is_lambda v × Is_bound p) → Meets N types home In Vars scope v mid at st R.value.result R.value.state → types (1 + lo) ≡ types mid → Known_names In Vars scope K types T
+          → Plain_term types home K places N v mid → Typed N places v mid T K types → Pattern_ran types home K places N p R.value.result (record { scope = scope; found = counted 0 nothing_found }) B.0 × Says In' Vars R.value.result
+      let_known (inl kind) X t1 k pv tv = let is_data = value_data kind X in (let_taken X is_data t1, value_behind N types home K places In Vars scope p R.value.result lo (1 + lo) mid at hi X.says is_data)
+      let_known (inr f) X t1 k pv tv = (
+        name_taken types home K places N (1 + lo + pattern_numbers p) p f.1 R.value.result (record { scope = scope; found = counted 0 nothing_found }) B.0 (bound_ran N (1 + lo + pattern_numbers p) p R.value.result scope B.0 B.1),
+        function_behind N types home K places In Vars scope p R.value.result lo (1 + lo) mid at hi X.says (function_value f.0 pv tv k E (omega (arith, m1))),
+      )
+
+      let_whole : HasKind K places (types mid) ⊎ (Is_lambda v × Is_bound p) → types (1 + lo) ≡ types mid → types lo ≡ types at → Known_names In Vars scope K types T
+          → Plain_term types home K places N v mid → Typed N places v mid T K types → Plain_term types home K places N e at → Typed N places e at (typed_with the_one p (1 + lo) T) K types
           → Inner N types home In Vars scope (Let (a_let [] p) v e) lo hi st R.left R.body.state
       let_whole kind t1 t2 k pv tv pe te =
-          let X = let_value pv tv k E (omega (arith, l)) in
-          let is_data = value_data kind X in
-          let_meets N types home K places data_places In Vars scope p R.value.result lo mid at hi plain l l2 l3 E v e [] false st R.value.state R.pattern.state R.body.state R.body.result R.left m1 m2 m3 t2 is_data
-          (one_noted p (1 + lo) plain R.value.result R.value.state R.pattern R.pattern_is) (leaves lo (names p ++ []) R.body.result R.left R.leaving_is) X (let_body X is_data t1 k pe te)
+          let X = let_value pv tv k E (omega (arith, m1)) in
+          let P = let_known kind X t1 k pv tv in
+          let_meets N types home K places In Vars scope p R.value.result lo mid at hi plain P.0.parts m1 l2 l3 E v e [] false st R.value.state R.pattern.state R.body.state R.body.result R.left m2 m3 t2
+          (noted_is types home K places N p (1 + lo) plain R.value.result P.0.parts R.value.state R.pattern R.pattern_is) (leaves lo (names p ++ []) R.body.result R.left R.leaving_is) X (let_body X P.1 t1 k P.0 pe te)
 
   let_part : (p : FlatPattern) (v e : FlatTerm) → Law v → Law e → Law (Let (a_let [] p) v e)
   let_part p v e lv le In Vars scope T lo st d pl t k E q = inl (record {
@@ -562,8 +566,8 @@ module _ (N : Names) (types : Sub) (home : ℕ → ℕ) (K : Kinds) (places : Ki
       last = omega arith
 
       I : Inner N types home In Vars scope (Let (a_let [] p) v e) lo (1 + lo + pattern_numbers p + numbers v + numbers e) st R.left R.body.state
-      I = let_whole p v e lv le In Vars scope T lo (1 + lo + pattern_numbers p) (1 + lo + pattern_numbers p + numbers v) (1 + lo + pattern_numbers p + numbers v + numbers e) refl refl refl st d R pl.0
-          (let n = pattern_some p in omega (arith, n)) (let n = numbers_some v in omega (arith, n)) (let n = numbers_some e in omega (arith, n)) (subst (λ n. Elsewhere N types home lo n In) last E)
+      I = let_whole p v e lv le In Vars scope T lo (1 + lo + pattern_numbers p) (1 + lo + pattern_numbers p + numbers v) (1 + lo + pattern_numbers p + numbers v + numbers e) refl refl refl st d R pl.0 T t.0.0.0.0
+          (let n = numbers_some v in omega (arith, n)) (let n = numbers_some e in omega (arith, n)) (subst (λ n. Elsewhere N types home lo n In) last E)
           pl.2 t.0.0.1 t.1 k pl.3 t.0.0.0.1 pl.4 t.0.1
 
   -- of what is bound, in whatever form it is written
@@ -575,20 +579,7 @@ module _ (N : Names) (types : Sub) (home : ℕ → ℕ) (K : Kinds) (places : Ki
 
   -- ---- functions
 
-  no_part_names : (ps : Patterns Ref BindId) (q : ℕ) → Plain_patterns types home K places ps q → all_part_names ps ≡ []
-  no_part_names no_pattern q h = refl
-  no_part_names (pattern_and (Bound_pattern x) ps) q h = no_part_names ps (q + 1) h.3
-  no_part_names (pattern_and Wild_pattern ps) q h = no_part_names ps (q + 1) h.3
-  no_part_names (pattern_and (Tuple_pattern xs) ps) q h = absurd h.0
-  no_part_names (pattern_and (Record_pattern fs xs) ps) q h = absurd h.0
-  no_part_names (pattern_and (Typed_pattern x t) ps) q h = absurd h.0
-
-  abbrev lambda_waits : Patterns Ref BindId → FlatTerm → ℕ → Scope → Option Want → Found → Step Met
-  lambda_waits ps e lo scope w σ = and_then (ask (all_entered N types lo ps (1 + lo) (record { scope = scope; parameters = []; wanted = wanted_size w; found = σ }))) (λ E. and_then (ask (none_left N types (1 + lo + all_pattern_numbers ps) (unchosen [] E.parameters))) (λ z. and_then (parameters_noted N types E.parameters) (λ y.
-      and_then (sized N types e [] (1 + lo + all_pattern_numbers ps) E.scope) (λ part. and_then (finished N types (1 + lo + all_pattern_numbers ps) part) (λ body. and_then (ask (leaving lo (all_part_names ps) body)) (λ r.
-      and_then (note lo (function_size [] lo (1 + lo + all_pattern_numbers ps + numbers e) E.parameters r)) (λ own. ask (matched N types lo w own E.found))))))))
-
-  module _ (p : FlatPattern) (ps : Patterns Ref BindId) (e : FlatTerm) (le : Law e) (In : Free → Type 0) (Vars : Variable → Type 0) (scope : Scope) (T : TypeScope) (lo : ℕ) (pl : Plain_term types home K places (Lambda (pattern_and p ps) e) lo) (t : Typed N places (Lambda (pattern_and p ps) e) lo T K types)
+  module _ (p : FlatPattern) (ps : Patterns Ref BindId) (e : FlatTerm) (le : Law e) (In : Free → Type 0) (Vars : Variable → Type 0) (scope : Scope) (T : TypeScope) (lo : ℕ) (pl : Plain_term types home K places N (Lambda (pattern_and p ps) e) lo) (t : Typed N places (Lambda (pattern_and p ps) e) lo T K types)
       (known : Known_names In Vars scope K types T) (at hi : ℕ) (m1 : 1 + lo + all_pattern_numbers (pattern_and p ps) ≡ at) (m2 : at + numbers e ≡ hi) (E : Elsewhere N types home lo hi In) (before : State) (m : Done Met) (R : Lambda_ran N types home K places (pattern_and p ps) e lo at hi scope before m) where
     abbrev all : Patterns Ref BindId
     all = pattern_and p ps
@@ -601,21 +592,25 @@ module _ (N : Names) (types : Sub) (home : ℕ → ℕ) (K : Kinds) (places : Ki
 
     body_meets : (In' : Free → Type 0) (scope' : Scope) (T' : TypeScope) → Typed N places e at T' K types → Known_names In' Vars scope' K types T' → Elsewhere N types home at hi In' → scope' ≡ all_bound N types home K places all (1 + lo) scope → Meets N types home In' Vars scope' e at hi R.parameters R.body.result R.body.state
     body_meets In' scope' T' t' k E' z = subst (λ n. Meets N types home In' Vars scope' e at n R.parameters R.body.result R.body.state) m2
-        (alone e le In' Vars scope' T' at R.parameters R.part R.body (subst (λ n. Plain_term types home K places e n) m1 pl.1) t' k (subst (λ n. Elsewhere N types home at n In') (sym m2) E') (ap (λ w. sized N types e [] at w R.parameters) z ∙ R.part_is) R.body_is)
+        (alone N types home K places e le In' Vars scope' T' at R.parameters R.part R.body (subst (λ n. Plain_term types home K places N e n) m1 pl.1) t' k (subst (λ n. Elsewhere N types home at n In') (sym m2) E') (ap (λ w. sized N types e [] at w R.parameters) z ∙ R.part_is) R.body_is)
 
-    rest : Rest N types home K places data_places e lo at hi at_hi (all_part_names all) (no_part_names all (1 + lo) pl.0) R.body.result R.left (leaves lo (all_part_names all) R.body.result R.left R.leaves) R.parameters R.body.state Vars (all_bound N types home K places all (1 + lo) scope) body_meets all (1 + lo) In scope
-    rest = all_rest N types home K places data_places e lo at hi at_hi (all_part_names all) (no_part_names all (1 + lo) pl.0) R.body.result R.left (leaves lo (all_part_names all) R.body.result R.left R.leaves) R.parameters R.body.state Vars (all_bound N types home K places all (1 + lo) scope) body_meets
-        all (1 + lo) In scope T m1 (omega arith) pl.0 (subst (λ n. Typed N places e n (all_typed_with the_one all (1 + lo) T) K types) m1 t.0.1) known (narrower In lo hi (1 + lo) hi (omega arith) (omega arith) E) (narrower In lo hi lo (1 + lo) (omega arith) (omega (arith, m1, at_hi)) E) refl
+    -- what is known outside is not met within
+    met_inside : Unmet lo hi In
+    met_inside n i x y = E.outside (Unknown n i) x (met_between lo hi n i y)
+
+    rest : Rest N types home K places data_places e lo at hi at_hi (all_part_names all) R.body.result R.left (leaves lo (all_part_names all) R.body.result R.left R.leaves.1) R.parameters R.body.state Vars (all_bound N types home K places all (1 + lo) scope) body_meets all (1 + lo) In scope
+    rest = all_rest N types home K places data_places e lo at hi at_hi (all_part_names all) R.body.result R.left (leaves lo (all_part_names all) R.body.result R.left R.leaves.1) R.parameters R.body.state Vars (all_bound N types home K places all (1 + lo) scope) body_meets
+        all (1 + lo) In scope T m1 (omega arith) pl.0 t.0.0 R.fit (λ n i x y. met_inside n i x y) R.leaves.0 (λ b e. e) (subst (λ n. Typed N places e n (all_typed_with the_one all (1 + lo) T) K types) m1 t.0.1) known (narrower In lo hi (1 + lo) hi (omega arith) (omega arith) E) (narrower In lo hi lo (1 + lo) (omega arith) (omega (arith, m1, at_hi)) E) refl
 
     node_lo : m.state.nodes lo ≡ lambda_size
-    node_lo = ap (λ (f : ℕ → Size). f lo) R.state ∙ at_itself lo lambda_size R.body.state.nodes
+    node_lo = ap (λ (x : State). x.nodes lo) R.state ∙ at_itself lo lambda_size R.body.state.nodes
 
     node_else : (n : ℕ) → (lo ≡ n → ⊥) → m.state.nodes n ≡ R.body.state.nodes n
-    node_else n h = ap (λ (f : ℕ → Size). f n) R.state ∙ at_another lo n lambda_size R.body.state.nodes h
+    node_else n h = ap (λ (x : State). x.nodes n) R.state ∙ at_another lo n lambda_size R.body.state.nodes h
 
-    const_met : (x : Free) → In x ⊎ Is_const x → With_met In lo hi x
-    const_met x (inl i) = inl i
-    const_met x (inr c) = inr (constant x c)
+    const_met : (x : Free) → (In x ⊎ Is_const x) × ((b : ℕ) → x ≡ Name b → is_among (all_part_names all) b ≡ false) → With_met In lo hi x
+    const_met x (inl i, bare) = inl i
+    const_met x (inr c, bare) = inr (constant x c)
       where
         constant : (x : Free) → Is_const x → Met_in lo hi x
         constant (Const c) h = tt
@@ -624,12 +619,16 @@ module _ (N : Names) (types : Sub) (home : ℕ → ℕ) (K : Kinds) (places : Ki
         constant (Unknown n i) h = absurd h
         constant (Slot i) h = absurd h
 
+    lambda_knows : Each (Scoped (λ x. In x ⊎ Is_const x)) 0 m.result.size
+    lambda_knows = subst (λ w. Each (Scoped (λ x. In x ⊎ Is_const x)) 0 w) (sym R.size) (each_scoped (λ x. (In x ⊎ Is_const x) × ((b : ℕ) → x ≡ Name b → is_among (all_part_names all) b ≡ false)) (λ x. In x ⊎ Is_const x) (λ x w. w.0) lambda_size 0 rest.sizes)
+
     lambda_meets : Meets N types home In Vars scope (Lambda all e) lo hi before m.result.size m.state
     lambda_meets = record {
-      says = subst (λ w. Says (With_met In lo hi) Vars w) (sym R.size) (record { sizes = each_scoped (λ x. In x ⊎ Is_const x) (With_met In lo hi) const_met lambda_size 0 rest.sizes; variables = rest.variables; formed = rest.formed });
+      says = subst (λ w. Says (With_met In lo hi) Vars w) (sym R.size) (record { sizes = each_scoped (λ x. (In x ⊎ Is_const x) × ((b : ℕ) → x ≡ Name b → is_among (all_part_names all) b ≡ false)) (With_met In lo hi) const_met lambda_size 0 rest.sizes; variables = rest.variables; formed = rest.formed });
       typed = ap erased R.size ∙ rest.typed ∙ ap (λ n. arrows (pattern_types types all (1 + lo)) (types n)) (sym m1) ∙ sym t.1;
       here = node_lo ∙ sym R.size;
       kept = λ n o. node_else n (λ z. not_here n o z) ∙ rest.kept n (by_body n o) ∙ R.noted_is.kept n (by_parameters n o);
+      dropped = λ n o. ap (λ (x : State). x.dropped n) R.state ∙ rest.dropped n (by_body n o) ∙ ap (λ (f : ℕ → List ℕ). f n) R.noted_is.dropped;
       rules = rules;
     }
       where
@@ -658,17 +657,57 @@ module _ (N : Names) (types : Sub) (home : ℕ → ℕ) (K : Kinds) (places : Ki
 
   lambda_part : (p : FlatPattern) (ps : Patterns Ref BindId) (e : FlatTerm) → Law e → Law (Lambda (pattern_and p ps) e)
   unfolding sized
-  lambda_part p ps e le In Vars scope T lo st d pl t known E q = inr (record {
+  lambda_part p ps e le In Vars scope T lo st d pl t known E q = inr (inl (record {
     waiting = lambda_waits (pattern_and p ps) e lo scope;
     is_waiting = ap (λ (x : Done Part). x.result) (sym (same_ok q));
     unchanged = ap (λ (x : Done Part). x.state) (sym (same_ok q));
+    known_sizes = λ before m z. lambda_knows p ps e le In Vars scope T lo pl t known (1 + lo + all_pattern_numbers (pattern_and p ps)) (1 + lo + all_pattern_numbers (pattern_and p ps) + numbers e) refl refl (subst (λ n. Elsewhere N types home lo n In) last E) before m
+        (lambda_ran N types home K places (pattern_and p ps) e lo (1 + lo + all_pattern_numbers (pattern_and p ps)) (1 + lo + all_pattern_numbers (pattern_and p ps) + numbers e) data_places T pl.0 t.0.0 scope before m z);
+    of_function = (types (1 + lo), (arrows (pattern_types types ps (1 + lo + pattern_numbers p)) (types (1 + lo + all_pattern_numbers (pattern_and p ps))), t.1));
     by_itself = λ before m z. subst (λ n. Meets N types home In Vars scope (Lambda (pattern_and p ps) e) lo n before m.result.size m.state) (sym last)
         (lambda_meets p ps e le In Vars scope T lo pl t known (1 + lo + all_pattern_numbers (pattern_and p ps)) (1 + lo + all_pattern_numbers (pattern_and p ps) + numbers e) refl refl (subst (λ n. Elsewhere N types home lo n In) last E) before m
-        (lambda_ran N types home K places (pattern_and p ps) e lo (1 + lo + all_pattern_numbers (pattern_and p ps)) (1 + lo + all_pattern_numbers (pattern_and p ps) + numbers e) pl.0 scope before m z));
-  })
+        (lambda_ran N types home K places (pattern_and p ps) e lo (1 + lo + all_pattern_numbers (pattern_and p ps)) (1 + lo + all_pattern_numbers (pattern_and p ps) + numbers e) data_places T pl.0 t.0.0 scope before m z));
+  }))
     where
       last : lo + numbers (Lambda (pattern_and p ps) e) ≡ 1 + lo + all_pattern_numbers (pattern_and p ps) + numbers e
       last = omega arith
+
+  -- ---- loops
+
+  abbrev a_loop : Place → FlatPattern → FlatTerm → FlatTurns → FlatTerm → FlatTerm
+  a_loop mark p first turns body = Loop mark [] p first turns body
+
+  loop_ran : (mark : Place) (p : FlatPattern) (first : FlatTerm) (turns : FlatTurns) (body : FlatTerm) (lo : ℕ) (scope : Scope) (st : State) (d : Done Part) → sized N types (a_loop mark p first turns body) [] lo scope st ≡ Ok d
+      → Loop_ran N types home K places data_places p first turns body lo (1 + lo + pattern_numbers p) (1 + lo + pattern_numbers p + numbers first) (1 + lo + pattern_numbers p + numbers first + turn_numbers turns) (1 + lo + pattern_numbers p + numbers first + turn_numbers turns + numbers body) refl refl refl refl scope st d
+  unfolding sized
+  loop_ran mark p first turns body lo scope st d q =
+      let x1 = then_ok (sized N types first [] (1 + lo + pattern_numbers p) scope st) q in
+      let x2 = then_ok (finished N types (1 + lo + pattern_numbers p) x1.first.result x1.first.state) x1.rest in
+      let x3 = then_ok (turns_sized N types turns (1 + lo + pattern_numbers p + numbers first) scope x2.first.state) x2.rest in
+      let x4 = then_ok (turns_from N types (suc (levels x2.first.result)) lo x2.first.result _ x3.first.state) x3.rest in
+      record { part = x1.first; value = x2.first; each = x3.first; last = x4.first; part_is = x1.done; value_is = x2.done; each_is = x3.done; last_is = x4.done; gives = sym (same_ok x4.rest) }
+
+  loop_part : (mark : Place) (p : FlatPattern) (first : FlatTerm) (turns : FlatTurns) (body : FlatTerm) → Law first → Law_turns N types home K places data_places turns → Law body → Law (a_loop mark p first turns body)
+  loop_part mark p first turns body lf lt lb In Vars scope T lo st d pl t k E q = inl (record {
+    size = R.last.result;
+    is_whole = ap (λ (x : Done Part). x.result) R.gives;
+    inner = subst (λ (x : Done Part). Inner N types home In Vars scope (a_loop mark p first turns body) lo (lo + numbers (a_loop mark p first turns body)) st R.last.result x.state) (sym R.gives)
+        (subst (λ n. Inner N types home In Vars scope (a_loop mark p first turns body) lo n st R.last.result R.last.state) (sym last) (record { says = M.says; typed = M.typed; kept = M.kept; dropped = M.dropped; rules = M.rules }));
+  })
+    where
+      R : Loop_ran N types home K places data_places p first turns body lo (1 + lo + pattern_numbers p) (1 + lo + pattern_numbers p + numbers first) (1 + lo + pattern_numbers p + numbers first + turn_numbers turns) (1 + lo + pattern_numbers p + numbers first + turn_numbers turns + numbers body) refl refl refl refl scope st d
+      R = loop_ran mark p first turns body lo scope st d q
+
+      last : lo + numbers (a_loop mark p first turns body) ≡ 1 + lo + pattern_numbers p + numbers first + turn_numbers turns + numbers body
+      last = omega arith
+
+      M : Loop_meets N types home K places data_places p first turns body lo (1 + lo + pattern_numbers p) (1 + lo + pattern_numbers p + numbers first) (1 + lo + pattern_numbers p + numbers first + turn_numbers turns) (1 + lo + pattern_numbers p + numbers first + turn_numbers turns + numbers body) refl refl refl refl In Vars scope st R.last.result R.last.state
+      M = loop_meets N types home K places data_places p first turns body lo (1 + lo + pattern_numbers p) (1 + lo + pattern_numbers p + numbers first) (1 + lo + pattern_numbers p + numbers first + turn_numbers turns) (1 + lo + pattern_numbers p + numbers first + turn_numbers turns + numbers body) refl refl refl refl
+          lf lt lb In Vars scope T k (subst (λ n. Elsewhere N types home lo n In) last E) pl.0 t.0.0.0.0.0 pl.1 t.0.0.0.0.1 pl.2 t.0.0.1 pl.3 t.0.1 t.1 t.0.0.0.1 t.2 t.3 st d R
+
+  any_loop : (sizes : List BindId) (mark : Place) (p : FlatPattern) (first : FlatTerm) (turns : FlatTurns) (body : FlatTerm) → Law first → Law_turns N types home K places data_places turns → Law body → Law (Loop mark sizes p first turns body)
+  any_loop [] mark p first turns body lf lt lb = loop_part mark p first turns body lf lt lb
+  any_loop (x ∷ xs) mark p first turns body lf lt lb = λ In Vars scope T lo st d pl t known E q. absurd pl.0
 
   mutual
     pub term_part : (e : FlatTerm) → Law e
@@ -678,11 +717,16 @@ module _ (N : Names) (types : Sub) (home : ℕ → ℕ) (K : Kinds) (places : Ki
     term_part (Strict o mark ts) = strict_part o mark ts (term_parts ts)
     term_part (Lambda no_pattern e) = λ In Vars scope T lo st d p t known E q. absurd p
     term_part (Lambda (pattern_and x ps) e) = lambda_part x ps e (term_part e)
-    term_part (Apply f e) = λ In Vars scope T lo st d p t known E q. absurd p
+    term_part (Apply f e) = apply_part N types home K places data_places f e (term_part e)
     term_part (Let b v e) = any_let b.sizes b.parameters b.is_function b.pattern v e (term_part v) (term_part e)
     term_part (If c a b) = if_part c a b (term_part c) (term_part a) (term_part b)
-    term_part (Loop mark sizes x first turns body) = λ In Vars scope T lo st d p t known E q. absurd p
+    term_part (Loop mark sizes x first turns body) = any_loop sizes mark x first turns body (term_part first) (turns_part turns) (term_part body)
 
     term_parts : (ts : Terms Ref BindId) → Law_all ts
     term_parts no_term = no_part
     term_parts (term_and t ts) = more_part t ts (term_part t) (term_parts ts)
+
+    turns_part : (turns : FlatTurns) → Law_turns N types home K places data_places turns
+    turns_part (Counted i m) = term_part m
+    turns_part (Over p e) = term_part e
+    turns_part (While c) = term_part c

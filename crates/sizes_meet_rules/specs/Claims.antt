@@ -21,6 +21,6 @@ nothing_known = record { sizes = λ b. None; schemes = λ b. None; general = λ 
 -- the sized types of a term's nodes meet the rules, and its own one is, without its sizes, its type
 abbrev pub SizingMeetsRules : Type 0
 SizingMeetsRules = (N : Names) (types : Sub) (home : ℕ → ℕ) (K : Kinds) (places : Kind) (e : FlatTerm) (lo : ℕ) (st : State) (d : Done Part) (u : Done Size) → 1 ≤ level places
-    → Plain_term types home K places e lo → Typed N places e lo no_types K types
+    → Plain_term types home K places N e lo → Typed N places e lo no_types K types
     → sized N types e [] lo nothing st ≡ Ok d → finished N types lo d.result d.state ≡ Ok u
     → Sized N types u.state.nodes home e lo nothing_known × (u.state.nodes lo ≡ u.result) × (erased u.result ≡ types lo)

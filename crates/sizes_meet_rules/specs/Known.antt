@@ -1,6 +1,6 @@
 -- What is known of the names in scope: those that a typing uses have sized types of which only some sizes and type variables
 -- are said, and what is said of them can be found when the program runs.
-use Rattle.std.specs.Prelude.{◌≡◌, ◌⊎◌, ℕ, true, false, Some}
+use Rattle.std.specs.Prelude.{◌≡◌, ◌⊎◌, ℕ, ◌<◌, true, false, Some}
 use Rattle.fut_types.specs.declared.Head.{Head}
 use Rattle.fut_types.specs.declared.Head.TheVariants as head
 use Rattle.fut_types.specs.Types.{Ty, Sub, Kinds}
@@ -11,7 +11,7 @@ use Rattle.fut_sizes.specs.Functions.{is_slot}
 use Rattle.fut_sizes.specs.Rules.{Each_hole, Outside}
 use Rattle.fut_sizes.specs.Scopes.{Scope}
 use Rattle.fut_sizes.specs.Scoping.{Context, is_number}
-use Rattle.fut_sizes.specs.Suiting.{Each, Scoped}
+use Rattle.fut_sizes.specs.Suiting.{Each, Scoped, Of_positions}
 
 -- what data is made by beside arrays and type variables
 abbrev pub Is_made : Head → Type 0
@@ -20,13 +20,14 @@ Is_made head.Fun = ⊥
 Is_made (head.Rigid n k) = ⊥
 Is_made h = Unit {0}
 
+-- nothing is open; what a function takes names the sizes that its caller chooses, and no others of its frame
 unfoldable mutual
   pub Formed : Size → Type 0
   Formed (Hole v) = Unit {0}
   Formed (Open n v u) = ⊥
   Formed (Level d t) = Formed t
   Formed (Built h ts) = Is_made h × All_formed ts
-  Formed (Fun k p r) = Formed p × Formed r
+  Formed (Fun k p r) = Formed p × Formed r × Each (Of_positions (λ i. i < k)) 1 p
 
   pub All_formed : Sizes → Type 0
   All_formed no_size = Unit {0}

@@ -1,16 +1,17 @@
--- The terms of which the law speaks: names, scalars, tuples, arrays, their elements and slices, ranges, ascriptions, coercions,
--- declared results, functions of data, lets of data and branches. A node that binds a name is the home of that name.
-use Rattle.std.specs.Prelude.{◌≡◌, ℕ, ◌+◌, Bool, false, List, [], None}
+-- The terms of which the law speaks: names, operations, functions of data, lets of data and of functions, branches, loops and applications of names to one argument of data. A node that binds a name is the home of that name.
+use Rattle.std.specs.Prelude.{◌≡◌, ◌⊎◌, ℕ, ◌+◌, ◌^◌, ◌<◌, Bool, false, List, [], None}
 use Rattle.fut_scalar.specs.declared.place.BindId.{BindId}
 use Rattle.fut_scalar.specs.declared.scalar.ScalarType.{ScalarType}
 use Rattle.fut_flat.specs.declared.prim.Ref.{Ref}
 use Rattle.fut_flat.specs.declared.prim.Ref.TheVariants as ref
-use Rattle.fut_flat.specs.Numbers.{pattern_numbers, all_pattern_numbers, own_numbers, numbers}
-use Rattle.fut_flat.specs.Terms.{Type_use, Array_type, Unique_type, Tuple_type, Type_terms, no_type, type_and, Coerce, Declared, Bound_pattern, Wild_pattern, Patterns, no_pattern, pattern_and, Parameter, Operation, Integer, Truth, Tuple_of, Array_of, Binary, Negate, Complement, Index, Update, Ascribe, Assert, Range, Use, Strict, Lambda, Let, If, Terms, no_term, term_and}
-use Rattle.fut_flat.specs.Erased.{FlatTerm, FlatPattern, FlatType}
+use Rattle.fut_flat.specs.Numbers.{pattern_numbers, all_pattern_numbers, own_numbers, numbers, turn_numbers}
+use Rattle.fut_flat.specs.Terms.{Type_use, Array_type, Unique_type, Arrow_type, Tuple_type, Record_type, Type_terms, no_type, type_and, Coerce, Declared, Bound_pattern, Wild_pattern, Tuple_pattern, Record_pattern, Typed_pattern, Patterns, no_pattern, pattern_and, Parameter, Operation, Integer, Truth, Tuple_of, Record_of, Array_of, Binary, Negate, Complement, Index, Project, Update, Replace, Ascribe, Assert, Range, Use, Strict, Lambda, Apply, Let, If, Loop, Terms, no_term, term_and, Counted, Over, While}
+use Rattle.fut_flat.specs.Erased.{FlatTerm, FlatTurns, FlatPattern, FlatType}
 use Rattle.fut_types.specs.declared.Kind.{Kind}
 use Rattle.fut_types.specs.declared.Head.TheVariants as head
 use Rattle.fut_types.specs.Types.{Ty, Var, Made, Tys, none, more, Sub, Kinds, HasKind, scalar_ty}
+use Rattle.fut_typing.specs.Names.{Names, AreNames}
+use Rattle.fut_typing.specs.Primitives.{i64_ty}
 use Rattle.fut_sizes.specs.Compositions.{composition}
 
 -- a type without type variables, made as the language makes types: an array of one type, a function of two
@@ -30,14 +31,15 @@ unfoldable mutual
   Formed_types none = Unit {0}
   Formed_types (more t ts) = Formed_type t × Formed_types ts
 
--- a written type of data, without records
+-- a written type of data
 abbrev mutual
   pub Written_data : FlatType → Type 0
   Written_data (Type_use r args) = Unit {0}
   Written_data (Array_type s e) = Written_data e
   Written_data (Unique_type e) = Written_data e
   Written_data (Tuple_type es) = All_written_data es
-  Written_data e = ⊥
+  Written_data (Record_type fs es) = All_written_data es
+  Written_data (Arrow_type b from to) = ⊥
 
   pub All_written_data : Type_terms Ref BindId → Type 0
   All_written_data no_type = Unit {0}
@@ -46,33 +48,62 @@ abbrev mutual
 abbrev pub Is_scalar : Ty → Type 0
 Is_scalar t = (c : ScalarType) × (t ≡ scalar_ty c)
 
--- an operation whose result is of a type
-abbrev pub Plain_operation : Operation Ref BindId → Ty → Terms Ref BindId → Type 0
-Plain_operation (Integer n i) t ts = Is_scalar t
-Plain_operation (Truth b) t ts = Is_scalar t
-Plain_operation (Binary o) t ts = Is_scalar t
-Plain_operation Negate t ts = Is_scalar t
-Plain_operation Complement t ts = Is_scalar t
-Plain_operation Assert t ts = Is_scalar t
-Plain_operation Tuple_of t ts = Unit {0}
-Plain_operation Array_of t no_term = Formed_type t
-Plain_operation Array_of t (term_and e es) = Unit {0}
-Plain_operation (Range stepped end) t ts = Formed_type t
-Plain_operation (Index ps) t ts = Unit {0}
-Plain_operation Update t ts = Unit {0}
-Plain_operation (Ascribe e) t ts = Unit {0}
-Plain_operation (Coerce e) t ts = Written_data e
-Plain_operation (Declared e) t ts = Written_data e
-Plain_operation o t ts = ⊥
+-- an operation whose result is of a type; the fields of a record have names
+abbrev pub Plain_operation : Names → Operation Ref BindId → Ty → Terms Ref BindId → Type 0
+Plain_operation N (Integer n i) t ts = Is_scalar t
+Plain_operation N (Truth b) t ts = Is_scalar t
+Plain_operation N (Binary o) t ts = Is_scalar t
+Plain_operation N Negate t ts = Is_scalar t
+Plain_operation N Complement t ts = Is_scalar t
+Plain_operation N Assert t ts = Is_scalar t
+Plain_operation N Tuple_of t ts = Unit {0}
+Plain_operation N (Record_of fs) t ts = AreNames N
+Plain_operation N Array_of t no_term = Formed_type t
+Plain_operation N Array_of t (term_and e es) = Unit {0}
+Plain_operation N (Range stepped end) t ts = Formed_type t
+Plain_operation N (Index ps) t ts = Unit {0}
+Plain_operation N Update t ts = Unit {0}
+Plain_operation N (Project f) t ts = Unit {0}
+Plain_operation N (Replace f) t ts = Unit {0}
+Plain_operation N (Ascribe e) t ts = Unit {0}
+Plain_operation N (Coerce e) t ts = Written_data e
+Plain_operation N (Declared e) t ts = Written_data e
+
+-- a name
+abbrev pub Is_name : FlatTerm → Type 0
+Is_name (Use (ref.Bound b) at k) = Unit {0}
+Is_name e = ⊥
+
+-- a function under a name
+abbrev pub Is_lambda : FlatTerm → Type 0
+Is_lambda (Lambda (pattern_and p ps) e) = Unit {0}
+Is_lambda e = ⊥
+
+abbrev pub Is_bound : FlatPattern → Type 0
+Is_bound (Bound_pattern b) = Unit {0}
+Is_bound p = ⊥
+
+-- an argument that is a name or a literal is of type i64, and the literal is one that an i64 holds
+abbrev pub Plain_argument : FlatTerm → Ty → Type 0
+Plain_argument (Use r at k) t = t ≡ i64_ty
+Plain_argument (Strict (Integer c i) mark no_term) t = (t ≡ i64_ty) × (c < 2 ^ 63)
+Plain_argument e t = Unit {0}
 
 module _ (types : Sub) (home : ℕ → ℕ) (K : Kinds) (places : Kind) where
-  -- a name or none
-  abbrev pub Plain_pattern : FlatPattern → ℕ → Type 0
-  Plain_pattern (Bound_pattern b) q = home b.0 ≡ q
-  Plain_pattern Wild_pattern q = Unit {0}
-  Plain_pattern p q = ⊥
+  -- a name, none, or the parts of a tuple or a record; each may have a written type of data
+  abbrev mutual
+    pub Plain_pattern : FlatPattern → ℕ → Type 0
+    Plain_pattern (Bound_pattern b) q = home b.0 ≡ q
+    Plain_pattern Wild_pattern q = Unit {0}
+    Plain_pattern (Tuple_pattern ps) q = Plain_parts ps (1 + q)
+    Plain_pattern (Record_pattern fs ps) q = Plain_parts ps (1 + q)
+    Plain_pattern (Typed_pattern p e) q = Written_data e × Plain_pattern p q
 
-  -- parameters that are names or none, of data without type variables
+    pub Plain_parts : Patterns Ref BindId → ℕ → Type 0
+    Plain_parts no_pattern q = Unit {0}
+    Plain_parts (pattern_and p ps) q = Plain_pattern p q × Plain_parts ps (q + pattern_numbers p)
+
+  -- parameters of data without type variables
   abbrev pub Plain_patterns : Patterns Ref BindId → ℕ → Type 0
   Plain_patterns no_pattern q = Unit {0}
   Plain_patterns (pattern_and p ps) q = Plain_pattern p q × Formed_type (types q) × HasKind K places (types q) × Plain_patterns ps (q + pattern_numbers p)
@@ -82,16 +113,31 @@ module _ (types : Sub) (home : ℕ → ℕ) (K : Kinds) (places : Kind) where
   Plain_let [] [] false p q = Plain_pattern p q
   Plain_let sizes parameters is_function p q = ⊥
 
-  abbrev mutual
-    pub Plain_term : FlatTerm → ℕ → Type 0
-    Plain_term (Use (ref.Bound b) at k) lo = Unit {0}
-    Plain_term (Strict o mark ts) lo = Plain_operation o (types lo) ts × Plain_terms ts (lo + own_numbers o)
-    Plain_term (Lambda (pattern_and p ps) e) lo = Plain_patterns (pattern_and p ps) (1 + lo) × Plain_term e (1 + lo + all_pattern_numbers (pattern_and p ps))
-    Plain_term (Let b v e) lo = Plain_let b.sizes b.parameters b.is_function b.pattern (1 + lo) × (composition b e ≡ None)
-        × HasKind K places (types (1 + lo + pattern_numbers b.pattern)) × Plain_term v (1 + lo + pattern_numbers b.pattern) × Plain_term e (1 + lo + pattern_numbers b.pattern + numbers v)
-    Plain_term (If c a b) lo = Plain_term c (1 + lo) × Plain_term a (1 + lo + numbers c) × Plain_term b (1 + lo + numbers c + numbers a)
-    Plain_term e lo = ⊥
+  -- a loop that names no sizes
+  abbrev pub Plain_loop : List BindId → FlatPattern → ℕ → Type 0
+  Plain_loop [] p q = Plain_pattern p q
+  Plain_loop sizes p q = ⊥
 
-    pub Plain_terms : Terms Ref BindId → ℕ → Type 0
-    Plain_terms no_term lo = Unit {0}
-    Plain_terms (term_and t ts) lo = Plain_term t lo × Plain_terms ts (lo + numbers t)
+  module _ (N : Names) where
+    abbrev mutual
+      pub Plain_term : FlatTerm → ℕ → Type 0
+      Plain_term (Use (ref.Bound b) at k) lo = Unit {0}
+      Plain_term (Strict o mark ts) lo = Plain_operation N o (types lo) ts × Plain_terms ts (lo + own_numbers o)
+      Plain_term (Lambda (pattern_and p ps) e) lo = Plain_patterns (pattern_and p ps) (1 + lo) × Plain_term e (1 + lo + all_pattern_numbers (pattern_and p ps))
+      -- a function by its name, applied to one argument: both that and the result are data
+      Plain_term (Apply f e) lo = Is_name f × Plain_argument e (types (1 + lo + numbers f)) × HasKind K places (types (1 + lo + numbers f)) × HasKind K places (types lo) × Plain_term e (1 + lo + numbers f)
+      Plain_term (Let b v e) lo = Plain_let b.sizes b.parameters b.is_function b.pattern (1 + lo) × (composition b e ≡ None)
+          × (HasKind K places (types (1 + lo + pattern_numbers b.pattern)) ⊎ (Is_lambda v × Is_bound b.pattern)) × Plain_term v (1 + lo + pattern_numbers b.pattern) × Plain_term e (1 + lo + pattern_numbers b.pattern + numbers v)
+      Plain_term (If c a b) lo = Plain_term c (1 + lo) × Plain_term a (1 + lo + numbers c) × Plain_term b (1 + lo + numbers c + numbers a)
+      Plain_term (Loop mark sizes p first turns body) lo = Plain_loop sizes p (1 + lo) × Plain_term first (1 + lo + pattern_numbers p)
+          × Plain_turns turns (1 + lo + pattern_numbers p + numbers first) × Plain_term body (1 + lo + pattern_numbers p + numbers first + turn_numbers turns)
+      Plain_term e lo = ⊥
+
+      pub Plain_terms : Terms Ref BindId → ℕ → Type 0
+      Plain_terms no_term lo = Unit {0}
+      Plain_terms (term_and t ts) lo = Plain_term t lo × Plain_terms ts (lo + numbers t)
+
+      pub Plain_turns : FlatTurns → ℕ → Type 0
+      Plain_turns (Counted i m) lo = (home i.0 ≡ lo) × Is_scalar (types lo) × Plain_term m (1 + lo)
+      Plain_turns (Over p e) lo = Plain_pattern p lo × Plain_term e (lo + pattern_numbers p)
+      Plain_turns (While c) lo = Plain_term c lo

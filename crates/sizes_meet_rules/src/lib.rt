@@ -2,14 +2,20 @@
 //!
 //! `fut_sizes` has both: a function by structure, which gives each node of a term a sized type or the first refusal, and one rule
 //! a form, which a sizing is judged by; what is proved of values (`sized_meaning`) hangs on the rules alone. Here the one is
-//! joined to the other, for the terms of `specs/Plain.antt`: names, scalars, tuples, arrays, their elements and slices, ranges,
-//! ascriptions, coercions and declared results of data, functions whose parameters are names of data, lets of data and branches.
-//! Of other terms nothing is claimed yet: applications, general names, loops, patterns with parts, parameters with written types
-//! or type variables, records. `proofs/Unmet.antt` has two programs whose sizing does not meet a rule.
+//! joined to the other, for the terms of `specs/Plain.antt`: names, all operations, functions of data, lets of data, loops,
+//! branches, and a name's function applied to one argument, where that and the result are data; patterns are names and parts of
+//! tuples and records, with written types or without. Of other terms nothing is claimed yet: other applications (of more
+//! arguments, of functions to functions, to a name or a literal that is no i64), general names, patterns that name sizes,
+//! parameters of type variables, written types of functions.
+//! `proofs/Unmet.antt` has what a rule asks and the pass does not give.
 //!
 //! `specs/Known.antt` says what is known of the names in scope. The proof goes by structure (`proofs/Walking.antt`): of each term it
-//! says which sizes stand in its sized type, which nodes are noted, and that they meet the rules (`proofs/Meeting.antt`). A
-//! function's arrows bind what its parameters choose and what its body meets (`proofs/Listing.antt`, `proofs/Arrows.antt`).
+//! says which sizes stand in its sized type, which nodes are noted, and that they meet the rules (`proofs/Meeting.antt`). A pattern
+//! takes a value (`proofs/Taking.antt`), whose sizes and names are known behind it (`proofs/Naming.antt`, `proofs/Binding.antt`). A
+//! function's arrows bind what its parameters choose and what its body meets (`proofs/Listing.antt`, `proofs/Arrows.antt`). A loop is
+//! sized until a turn keeps all that is kept, which comes before its levels are used up (`proofs/Turning.antt`,
+//! `proofs/Looping.antt`). What is found of an argument reads as the argument (`proofs/Reading.antt`), and what stays open is an
+//! unknown of the application's node (`proofs/Applying.antt`).
 #![tactic(auto)]
 
 mod laws;

@@ -16,7 +16,7 @@ use Rattle.fut_blocks.specs.declared.block.Operation.TheVariants as operation
 use Rattle.fut_blocks.specs.Plain.{Operate, Give}
 use Rattle.fut_blocks.specs.Plain as act
 use Rattle.fut_blocks.specs.Rows.{Unknown_row}
-use Rattle.unfold.specs.Knowns.{Known, Tuple_known, Function_known, no_known, known_and, Scope, no_name, name_by, name_and, Tops, local_by, local, find}
+use Rattle.unfold.specs.Knowns.{Known, Tuple_known, Function_known, no_known, known_and, Scope, nothing_seen, name_by, name_and, Tops, local_by, local, find}
 use Rattle.unfold.specs.Shapes.{Scalar_shape, Tuple_shape, no_shape, shape_and, Shape, laid_scalar, laid_tuple, laid_none, laid_more}
 use Rattle.unfold.specs.Unfolding.{Bindings, named, both_hold, b_bound, b_tuple, b_parts, b_none, b_more, e_scalars, e_packed, e_tuples, e_none, e_more, p_atom, p_tuple, p_none, p_more, o_truth, o_tuple, o_binary, o_equal, o_part, Unfolds, u_name, u_primitive, u_strict, u_lambda, u_apply, u_let, u_packed, u_if, u_counted, u_over, u_none, u_more, a_body, a_waits, a_primitive_waits, a_job, a_none, a_more}
 
@@ -49,11 +49,11 @@ pair_shape = Tuple_shape (shape_and Scalar_shape (shape_and Scalar_shape no_shap
 
 -- where the definition 0 is `\x y -> x == y`, and names up to 2 are taken
 abbrev defined : Tops
-defined = (0, Function_known (pattern_and (name 1) (pattern_and (name 2) no_pattern)) (two binary.Eq (var 1) (var 2)) 3 no_name) ∷ []
+defined = (0, Function_known (pattern_and (name 1) (pattern_and (name 2) no_pattern)) (two binary.Eq (var 1) (var 2)) 3 nothing_seen) ∷ []
 
 -- the local name 4 has the component 0, the name 5 the component 1
 abbrev locals : Scope
-locals = name_and (bind_id 5) (named 1) (name_and (bind_id 4) (named 0) no_name)
+locals = name_and (bind_id 5) (named 1) (name_and (bind_id 4) (named 0) nothing_seen)
 
 abbrev Comes_to : FlatTerm → Bindings → Known → ℕ → Type 0
 Comes_to t bs s m = Unfolds (unsized (λ n. I32)) defined locals 7 t 2 bs s m

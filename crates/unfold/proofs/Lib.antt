@@ -1,5 +1,5 @@
-pub mod Names
-pub mod Sought
+pub mod Locals
+pub mod Rows
 pub mod Alike
 pub mod Stands
 pub mod Told

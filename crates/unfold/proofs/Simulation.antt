@@ -32,7 +32,7 @@ use Rattle.fut_blocks.specs.Meaning.{size_given}
 use Rattle.unfold.specs.Telling.{found, size_test, test_at, function_row}
 use Rattle.unfold.specs.Unfolding.{u_size, function_known}
 use Rattle.unfold.specs.Knowns.{Tuple_known, listed}
-use Rattle.unfold.proofs.Sought.{shape_is, test_is}
+use Rattle.unfold.proofs.Rows.{test_is}
 use Rattle.unfold.proofs.Told.{known_is, found_says, literal_is, result_shape_is, Size_is, size_is, no_size_is}
 use Rattle.unfold.proofs.Operating.{Told_test}
 use Rattle.fut_meaning.specs.Meaning.{Lang, plain, row_told, fits_type, counts, placed, called, no_function, job_of, runs, given, looped, step, Ever}
@@ -50,7 +50,7 @@ use Rattle.fut_blocks.specs.Numbered.{Upward}
 use Rattle.fut_blocks.specs.Plain.{Body, lets}
 use Rattle.fut_blocks.specs.Plain as act
 use Rattle.fut_blocks.specs.declared.block.Atom.TheVariants as atom
-use Rattle.unfold.specs.Knowns.{Known, Scalar_known, Primitive_known, no_known, Scope, Tops, knowns}
+use Rattle.unfold.specs.Knowns.{Known, Scalar_known, Primitive_known, no_known, Scope, entered_in, Tops, knowns}
 use Rattle.unfold.specs.Shapes.{Shape, Scalar_shape, Laid, laid_scalar, Split, split_scalar, Is_value}
 use Rattle.unfold.specs.Unfolding.{Bindings, names, named, constant_of, Unfolds, u_name, u_primitive, u_constant, u_strict, u_lambda, u_apply, u_let, u_packed, u_if, u_counted, u_over, u_while, Unfold_all, u_none, u_more, Applies, a_body, a_waits, a_primitive_waits, a_primitive, a_job, Applies_all, a_none, a_more, Packs}
 use Rattle.unfold.specs.Unfolding as unfolding_of
@@ -190,7 +190,7 @@ same_below n = omega arith
 -- the sizes of the type at a node are tested as the meaning does
 test_told : (sizes : Option Sizing) {sc : Scope} {env : FlatEnv} {d : Names Component} {n : ℕ} (lo : ℕ) → Holds sizes d n sc env → Told_test sizes (test_at sizes sc lo) (sizes_agree sizes env lo) n d
 test_told None lo h = λ e x s v k. refl
-test_told (Some Z) {sc} lo h = λ e x s v k. ap (λ z. and_then z (passes e (size_test Z.fields (found Z sc) (Z.size_at lo)))) (shape_is e (known_is k)) ∙ test_is e Z.fields (found_says (holds_on x (same_below _) h)) (Z.size_at lo) (value_shape v)
+test_told (Some Z) {sc} lo h = λ e x s v k. ap (λ z. and_then z (passes e (size_test Z.fields (found Z (entered_in sc)) (Z.size_at lo)))) (known_is k).is ∙ test_is e Z.fields (found_says (holds_on x (same_below _) h)) (Z.size_at lo) (value_shape v)
 
 module _ (told : Told) (tight : Bool) (budget : ℕ) (tops : Tops) (tops' : FlatTops) (dir : Bool) where
   abbrev pub L : Lang Ref BindId (Unit {0})

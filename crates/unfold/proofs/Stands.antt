@@ -21,8 +21,8 @@ use Rattle.fut_blocks.specs.declared.block.Atom.{Atom}
 use Rattle.fut_blocks.specs.declared.block.Atom.TheVariants as atom
 use Rattle.fut_blocks.specs.Meaning.{Component, Names, look, value_of}
 use Rattle.unfold.specs.Telling.{enter}
-use Rattle.unfold.specs.Knowns.{local, local_by, Known, Scalar_known, Tuple_known, Record_known, Function_known, Primitive_known, Knowns, no_known, known_and, Known_fields, no_known_field, known_field_and, Scope, no_name, name_and, Tops, find}
-use Rattle.unfold.proofs.Names.{found_here, found_on, no_local}
+use Rattle.unfold.specs.Knowns.{local, local_by, Known, Scalar_known, Tuple_known, Record_known, Function_known, Primitive_known, Knowns, no_known, known_and, Known_fields, no_known_field, known_field_and, Scope, nothing_seen, name_and, Tops, find}
+use Rattle.unfold.proofs.Locals.{found_here, found_on, no_local}
 
 abbrev pub FlatValues : Type 0
 FlatValues = Values Ref BindId (Unit {0})
@@ -59,7 +59,7 @@ mutual
     s_field : {f : Text} {s : Known} {fs : Known_fields} {v : FlatValue} {gs : FlatFields} → Stands sizes d n s v → Fields_stand sizes d n fs gs → Fields_stand sizes d n (known_field_and f s fs) (field_and f v gs)
 
   pub data Holds (sizes : Option Sizing) (d : Names Component) (n : ℕ) : Scope → FlatEnv → Type 0 where
-    h_base : {u : Unit {0}} → Holds sizes d n no_name (base u)
+    h_base : {u : Unit {0}} → Holds sizes d n nothing_seen (base u)
     h_bind : {b : BindId} {s : Known} {sc : Scope} {v : FlatValue} {env : FlatEnv} → Stands sizes d n s v → Holds sizes d n sc env → Holds sizes d n (name_and b s sc) (bind b v env)
     -- what was entered is no name, and is remembered where there is a sizing
     h_entered : {q : ℕ} {s : Known} {sc : Scope} {v : FlatValue} {env : FlatEnv} → Stands sizes d n s v → Holds sizes d n sc env → Holds sizes d n (enter sizes q s sc) (entered q v env)

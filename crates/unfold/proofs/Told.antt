@@ -6,12 +6,13 @@ use Rattle.fut_flat.specs.declared.prim.Primitive.TheVariants as prim
 use Rattle.fut_flat.specs.Numbers.{all_pattern_numbers}
 use Rattle.fut_scalar.specs.declared.scalar.IntType.TheVariants.{I64}
 use Rattle.fut_scalar.specs.declared.scalar.ScalarType.{ScalarType}
-use Rattle.fut_value.specs.Data.{Shape, Scalar_shape, Tuple_shape, Record_shape, Array_shape, Unmet_shape, shape_and, named_shape_and, Datum, Scalar_datum, Tuple_datum, Record_datum, Array_datum, Datums, no_datum, datum_and, Named_datums, no_named, named_and, shape_of, shapes_of, named_shapes_of}
+use Rattle.fut_value.specs.Data.{Shape, Scalar_shape, Tuple_shape, Record_shape, Unmet_shape, shape_and, named_shape_and, Datum, Scalar_datum, Tuple_datum, Record_datum, Array_datum, Datums, no_datum, datum_and, Named_datums, no_named, named_and, shape_of, shapes_of, named_shapes_of}
 use Rattle.sized_types.specs.Sizes.{At, Name}
 use Rattle.fut_meaning.specs.Datums.{as_value, as_values, as_fields}
 use Rattle.fut_meaning.specs.Flats.{FlatValue, FlatEnv, size_or}
 use Rattle.fut_meaning.specs.Found as meant
-use Rattle.fut_meaning.specs.Found.{Sizing, on_some, or_unmet, count}
+use Rattle.fut_meaning.specs.Found.{Sizing, count}
+use Rattle.fut_meaning.specs.Places.{row_of, size_of}
 use Rattle.fut_meaning.specs.Meaning.{Of_literal, Of_function}
 use Rattle.fut_meaning.specs.Meaning as meaning
 use Rattle.fut_meaning.specs.Operators.{integer}
@@ -22,12 +23,12 @@ use Rattle.fut_meaning.specs.Telling.{value_shape, value_shapes, field_shapes, w
 use Rattle.fut_meaning.specs.Values.{Scalar_value}
 use Rattle.fut_blocks.specs.declared.block.Atom.{Atom}
 use Rattle.fut_blocks.specs.Names.{Component, Names}
-use Rattle.fut_blocks.specs.Rows.{Row, Unknown_row, Scalar_row, Shape_of, Rows_of, Unzipped_row, Extent, rows, extent}
-use Rattle.fut_blocks.specs.Sizes.{datum_worth, length_in, row_in, or_later, met_or_unmet, row_met, row_shape, row_shapes, first_met, extent_worth, reading_worth}
-use Rattle.unfold.specs.Knowns.{Known, Knowns, Known_fields, Scope}
+use Rattle.fut_blocks.specs.Rows.{Row, Unknown_row, Scalar_row, Shape_of, Unzipped_row, Extent, rows}
+use Rattle.fut_blocks.specs.Sizes.{datum_worth, row_shape, row_shapes, extent_worth}
+use Rattle.unfold.specs.Knowns.{Known, Knowns, Known_fields, Scope, entered_in}
 use Rattle.unfold.specs.Telling.{Found, Argument, Telling, Of_row, Of_rows, rows_in, length_of, argument_row, same_row, mapped_rows, first_row, last_row, element_row, zipped_row, unzipped_row, replicated, counted, tabulated, indices_row, unflattened, transposed, primitive_tells, by_function, known_worth, known_row, known_rows, field_rows, is_function, data_told, to_come, closure_tells, found, tells, function_tells, rows_for, literal_row, function_row, size_used, number}
-use Rattle.unfold.proofs.Names.{named_found}
-use Rattle.unfold.proofs.Sought.{Say, say_none, say_one, Is_shape, extent_says, shape_is, rows_met, Counts, array_is, Named_are, named_none, named_more, named_is, told_is, result_is, Finds, worth_is, numbers_found, types_found, data_found, results_found, worth_found}
+use Rattle.unfold.proofs.Locals.{entered_named}
+use Rattle.unfold.proofs.Rows.{Is_shape, Is_worth, Counts, rows_are, length_counts, array_is, Named_are, named_none, named_more, named_is, told_is, result_is, Finds, worth_is, numbers_found, data_found, results_found, worth_found}
 use Rattle.unfold.proofs.Stands.{FlatValues, FlatFields, Has, Stands, s_scalar, s_tuple, s_record, s_function, s_primitive, All_stand, s_none, s_more, Fields_stand, s_no_field, s_field, Holds, h_base, h_bind, h_entered, some_inj}
 
 abbrev flat : Datum → FlatValue
@@ -78,33 +79,33 @@ data_tells Z (Array_datum row ds) hs = refl
 -- ---- values that are known
 
 unknown : (d : Names Component) → Is_shape d Unknown_row Unmet_shape
-unknown d = record { met = refl }
+unknown d = record { is = refl }
 
 module _ {sizes : Option Sizing} {d : Names Component} {n : ℕ} where
   mutual
     unfolding value_shape value_shapes field_shapes known_row known_rows field_rows
 
     pub known_is : {s : Known} {v : FlatValue} → Stands sizes d n s v → Is_shape d (known_row s) (value_shape v)
-    known_is (s_scalar {c = c} e h) = record { met = ap (λ z. and_then z (λ c. Val (Some (shape_of c)))) h.value ∙ ap (λ z. Val (Some z)) (sym (ap value_shape e ∙ shape_as c)) }
-    known_is (s_tuple h) = record { met = ap (λ z. and_then z (λ hs. Val (Some (Tuple_shape hs)))) (knowns_are h) }
-    known_is (s_record h) = record { met = ap (λ z. and_then z (λ hs. Val (Some (Record_shape hs)))) (named_is d (fields_are h)) }
+    known_is (s_scalar {c = c} e h) = record { is = ap (λ z. and_then z (λ c. Val (shape_of c))) h.value ∙ ap (λ z. Val z) (sym (ap value_shape e ∙ shape_as c)) }
+    known_is (s_tuple h) = record { is = ap (λ z. and_then z (λ hs. Val (Tuple_shape hs))) (knowns_are h) }
+    known_is (s_record h) = record { is = ap (λ z. and_then z (λ hs. Val (Record_shape hs))) (named_is d (fields_are h)) }
     known_is (s_function h) = unknown d
     known_is (s_primitive h) = unknown d
 
     knowns_are : {ss : Knowns} {vs : FlatValues} → All_stand sizes d n ss vs → row_shapes d (known_rows ss) ≡ Val (value_shapes vs)
     knowns_are s_none = refl
-    knowns_are (s_more {s = s} {ss} {v} {vs} h hs) = ap (λ z. and_then z (λ h. and_then (row_shapes d (known_rows ss)) (λ hs. Val (shape_and h hs)))) (shape_is d (known_is h)) ∙ ap (λ z. and_then z (λ hs. Val (shape_and (value_shape v) hs))) (knowns_are hs)
+    knowns_are (s_more {s = s} {ss} {v} {vs} h hs) = ap (λ z. and_then z (λ h. and_then (row_shapes d (known_rows ss)) (λ hs. Val (shape_and h hs)))) (known_is h).is ∙ ap (λ z. and_then z (λ hs. Val (shape_and (value_shape v) hs))) (knowns_are hs)
 
     fields_are : {fs : Known_fields} {gs : FlatFields} → Fields_stand sizes d n fs gs → Named_are d (field_rows fs) (field_shapes gs)
     fields_are s_no_field = named_none
     fields_are (s_field h hs) = named_more (known_is h) (fields_are hs)
 
-  worth_says : {s : Known} {v : FlatValue} → Stands sizes d n s v → Say (reading_worth d) (known_worth s) (worth_of v)
-  worth_says {v = v} (s_scalar {c = c} e h) = say_one (worth_of v) (ap (λ z. and_then z (λ c. Val (datum_worth c))) h.value ∙ ap (λ z. Val z) (worth_as c ∙ ap worth_of (sym e)))
-  worth_says (s_tuple h) = say_none
-  worth_says (s_record h) = say_none
-  worth_says (s_function h) = say_none
-  worth_says (s_primitive h) = say_none
+  worth_says : {s : Known} {v : FlatValue} → Stands sizes d n s v → Is_worth d (known_worth s) (worth_of v)
+  worth_says (s_scalar {c = c} e h) = record { is = ap (λ z. and_then z (λ c. Val (datum_worth c))) h.value ∙ ap (λ z. Val z) (worth_as c ∙ ap worth_of (sym e)) }
+  worth_says (s_tuple h) = record { is = refl }
+  worth_says (s_record h) = record { is = refl }
+  worth_says (s_function h) = record { is = refl }
+  worth_says (s_primitive h) = record { is = refl }
 
   function_is : {s : Known} {v : FlatValue} → Stands sizes d n s v → is_function s ≡ meant_of.is_function v
   function_is (s_scalar {c = c} e h) = sym (ap meant_of.is_function e ∙ no_function c)
@@ -117,7 +118,7 @@ module _ {sizes : Option Sizing} {d : Names Component} {n : ℕ} where
 
 record Argument_says (d : Names Component) (a : Argument) (b : meant_of.Argument) : Type 0 where
   shape : Is_shape d a.0 b.0
-  worth : Say (reading_worth d) a.1 b.1
+  worth : Is_worth d a.1 b.1
 
 data Telling_says (d : Names Component) : Telling → meant_of.Telling → Type 0 where
   says_row : {r : Row} {h : Shape} → Is_shape d r h → Telling_says d (Of_row r) (meant_of.Of_shape h)
@@ -130,49 +131,28 @@ module _ (d : Names Component) where
   abbrev Tells : Telling → meant_of.Telling → Type 0
   Tells = Telling_says d
 
-  row_shown : (h : Shape) → or_later (row_in h) (first_met d (rows (Unknown_row ∷ []))) ≡ Val (Some (meant_of.row_of h))
-  row_shown (Array_shape n h) = refl
-  row_shown (Scalar_shape s) = refl
-  row_shown (Tuple_shape hs) = refl
-  row_shown (Record_shape hs) = refl
-  row_shown Unmet_shape = refl
+  count_is : {a : Argument} {b : meant_of.Argument} → Argument_says d a b → Counts d a.1 (count b.1)
+  count_is {b = b} k = record { worth = b.1; is = k.worth.is; many = refl }
 
-  rows_are : {r : Row} {h : Shape} → Is_shape d r h → Is_shape d (rows_in r) (meant_of.row_of h)
-  rows_are {h = h} e = record { met = ap (λ z. and_then z (λ o. or_later o (first_met d (rows (Unknown_row ∷ []))))) (rows_met d {p = row_in h} refl e).met ∙ row_shown h }
+  many : {a : Argument} {b : meant_of.Argument} → Argument_says d a b → Counts d (length_of a.0) (size_of b.0)
+  many {a} k = length_counts d a.0 k.shape
 
-  length_is : {r : Row} (h : Shape) → Is_shape d r h → Counts d (length_of r) (meant_of.size_of h)
-  length_is {r} h e = record { worth = length_in h; is = ap (λ z. and_then (and_then z (λ o. Val (on_some o length_in))) (λ o. or_later o (extent_worth d (extent [])))) e.met ∙ alone (length_in h); many = by_shape h }
-    where
-      alone : (z : Option ℤ) → or_later z (Val None) ≡ Val z
-      alone (Some z) = refl
-      alone None = refl
-
-      by_shape : (h : Shape) → count (length_in h) ≡ meant_of.size_of h
-      by_shape (Array_shape n h) = refl
-      by_shape (Scalar_shape s) = refl
-      by_shape (Tuple_shape hs) = refl
-      by_shape (Record_shape hs) = refl
-      by_shape Unmet_shape = refl
-
-  count_is : {a : Argument} {b : meant_of.Argument} → Argument_says d a b → Counts d (extent a.1) (count b.1)
-  count_is {b = b} k = record { worth = b.1; is = extent_says d k.worth; many = refl }
-
-  many : {a : Argument} {b : meant_of.Argument} → Argument_says d a b → Counts d (length_of a.0) (meant_of.size_of b.0)
-  many {b = b} k = length_is b.0 k.shape
+  rows_inside : {r : Row} {h : Shape} → Is_shape d r h → Is_shape d (rows_in r) (row_of h)
+  rows_inside {r} e = rows_are d r e
 
   scalar_is : (t : ScalarType) → Is_shape d (Scalar_row t) (Scalar_shape t)
-  scalar_is t = record { met = refl }
+  scalar_is t = record { is = refl }
 
   nothing : Tells (Of_row Unknown_row) (meant_of.Of_shape Unmet_shape)
   nothing = says_row (unknown d)
 
   argument_rows : {xs : List Argument} {bs : List meant_of.Argument} → Arguments xs bs → All_same (Is_shape d) (map argument_row xs) (map meant_of.argument_row bs)
   argument_rows all_none = all_none
-  argument_rows (all_more k ks) = all_more (rows_are k.shape) (argument_rows ks)
+  argument_rows (all_more k ks) = all_more (rows_inside k.shape) (argument_rows ks)
 
   all_shapes_are : {rs : List Row} {hs : List Shape} → All_same (Is_shape d) rs hs → row_shapes d (rows rs) ≡ Val (meant_of.all_shapes hs)
   all_shapes_are all_none = refl
-  all_shapes_are (all_more {x' = h} {xs = rs} {xs' = hs} e es) = ap (λ z. and_then z (λ h. and_then (row_shapes d (rows rs)) (λ hs. Val (shape_and h hs)))) (shape_is d e) ∙ ap (λ z. and_then z (λ hs. Val (shape_and h hs))) (all_shapes_are es)
+  all_shapes_are (all_more {x' = h} {xs = rs} {xs' = hs} e es) = ap (λ z. and_then z (λ h. and_then (row_shapes d (rows rs)) (λ hs. Val (shape_and h hs)))) e.is ∙ ap (λ z. and_then z (λ hs. Val (shape_and h hs))) (all_shapes_are es)
 
   same_says : {xs : List Argument} {bs : List meant_of.Argument} → Arguments xs bs → Tells (same_row xs) (meant_of.same_shape bs)
   same_says all_none = nothing
@@ -194,20 +174,20 @@ module _ (d : Names Component) where
 
   element_says : {xs : List Argument} {bs : List meant_of.Argument} → Arguments xs bs → Tells (element_row xs) (meant_of.row_shape bs)
   element_says all_none = nothing
-  element_says (all_more k all_none) = says_row (rows_are k.shape)
+  element_says (all_more k all_none) = says_row (rows_inside k.shape)
   element_says (all_more k (all_more l ls)) = nothing
 
   zipped_says : {xs : List Argument} {bs : List meant_of.Argument} → Arguments xs bs → Tells (zipped_row xs) (meant_of.zipped_shape bs)
   zipped_says all_none = nothing
-  zipped_says (all_more k ks) = says_row (array_is d (many k) (record { met = ap (λ z. and_then z (λ hs. Val (Some (Tuple_shape hs)))) (all_shapes_are (argument_rows (all_more k ks))) }))
+  zipped_says (all_more k ks) = says_row (array_is d (many k) (record { is = ap (λ z. and_then z (λ hs. Val (Tuple_shape hs))) (all_shapes_are (argument_rows (all_more k ks))) }))
 
   unzipped_is : {e : Extent} {n : ℕ} {r : Row} {h : Shape} → Counts d e n → Is_shape d r h → Is_shape d (Unzipped_row e r) (meant_of.parts_of n h)
   unzipped_is {r = r} {h} c e =
-      record { met = ap (λ z. and_then z (λ z. and_then (and_then (row_met d r) met_or_unmet) (λ h. Val (Some (meant_of.parts_of (count z) h))))) c.is ∙ ap (λ z. and_then z (λ h. Val (Some (meant_of.parts_of (count c.worth) h)))) (shape_is d e) ∙ ap (λ z. Val (Some (meant_of.parts_of z h))) c.many }
+      record { is = ap (λ z. and_then z (λ z. and_then (row_shape d r) (λ h. Val (meant_of.parts_of (count z) h)))) c.is ∙ ap (λ z. and_then z (λ h. Val (meant_of.parts_of (count c.worth) h))) e.is ∙ ap (λ z. Val (meant_of.parts_of z h)) c.many }
 
   unzipped_says : {xs : List Argument} {bs : List meant_of.Argument} → Arguments xs bs → Tells (unzipped_row xs) (meant_of.unzipped_shape bs)
   unzipped_says all_none = nothing
-  unzipped_says (all_more k all_none) = says_row (unzipped_is (many k) (rows_are k.shape))
+  unzipped_says (all_more k all_none) = says_row (unzipped_is (many k) (rows_inside k.shape))
   unzipped_says (all_more k (all_more l ls)) = nothing
 
   replicated_says : {xs : List Argument} {bs : List meant_of.Argument} → Arguments xs bs → Tells (replicated xs) (meant_of.replicated bs)
@@ -235,12 +215,12 @@ module _ (d : Names Component) where
   unflattened_says all_none = nothing
   unflattened_says (all_more k all_none) = nothing
   unflattened_says (all_more k (all_more l all_none)) = nothing
-  unflattened_says (all_more k (all_more l (all_more m all_none))) = says_row (array_is d (count_is k) (array_is d (count_is l) (rows_are m.shape)))
+  unflattened_says (all_more k (all_more l (all_more m all_none))) = says_row (array_is d (count_is k) (array_is d (count_is l) (rows_inside m.shape)))
   unflattened_says (all_more k (all_more l (all_more m (all_more o os)))) = nothing
 
   transposed_says : {xs : List Argument} {bs : List meant_of.Argument} → Arguments xs bs → Tells (transposed xs) (meant_of.transposed bs)
   transposed_says all_none = nothing
-  transposed_says (all_more k all_none) = says_row (array_is d (length_is _ (rows_are k.shape)) (array_is d (many k) (rows_are (rows_are k.shape))))
+  transposed_says (all_more k all_none) = says_row (array_is d (length_counts d _ (rows_inside k.shape)) (array_is d (many k) (rows_inside (rows_inside k.shape))))
   transposed_says (all_more k (all_more l ls)) = nothing
 
   primitive_says : (p : Primitive) {xs : List Argument} {bs : List meant_of.Argument} → Arguments xs bs → Tells (primitive_tells p xs) (meant_of.primitive_tells p bs)
@@ -300,7 +280,7 @@ module _ (d : Names Component) where
 
   to_come_say : {rs : List Row} {hs : List Shape} → All_same (Is_shape d) rs hs → Arguments (to_come rs) (meant_of.to_come hs)
   to_come_say all_none = all_none
-  to_come_say (all_more e es) = all_more (record { shape = e; worth = say_none }) (to_come_say es)
+  to_come_say (all_more e es) = all_more (record { shape = e; worth = record { is = refl } }) (to_come_say es)
 
 data_say : {sizes : Option Sizing} {d : Names Component} {n : ℕ} {ss : Knowns} {vs : FlatValues} {xs : List Argument} {bs : List meant_of.Argument} → All_stand sizes d n ss vs → Arguments d xs bs → Arguments d (data_told ss xs) (meant_of.data_told vs bs)
 unfolding data_told meant_of.data_told
@@ -311,7 +291,7 @@ data_say {d = d} (s_more h hs) ks = cond_all d (function_is h) (data_say hs ks) 
 
 closure_says : (Z : Sizing) (d : Names Component) (qs : List ℕ) (lo : ℕ) {rs : List Row} {hs : List Shape} {W : Found} {F : meant.Found} → All_same (Is_shape d) rs hs → Finds d W F → Is_shape d (closure_tells Z qs lo rs W) (meant_of.closure_tells Z qs lo hs F)
 unfolding closure_tells meant_of.closure_tells
-closure_says Z d [] lo es k = result_is d Z.fields (Z.size_at lo) (numbers_found d k) (types_found d k) es
+closure_says Z d [] lo es k = result_is d Z.fields (Z.size_at lo) (numbers_found d k) k.type es
 closure_says Z d (q ∷ qs) lo all_none k = unknown d
 closure_says Z d (q ∷ qs) lo (all_more e es) k = closure_says Z d qs lo es (data_found d k Z.fields (Z.size_at q) e)
 
@@ -319,11 +299,11 @@ module _ {Z : Sizing} {d : Names Component} {n : ℕ} where
   mutual
     unfolding found tells function_tells meant_of.found meant_of.tells meant_of.function_tells
 
-    pub found_says : {sc : Scope} {env : FlatEnv} → Holds (Some Z) d n sc env → Finds d (found Z sc) (meant_of.found Z env)
-    found_says h_base = record { size = λ x. say_none; type = λ v. say_none }
-    found_says (h_bind {b = b} {s = s} {sc = sc} {env = env} h hs) = subst (λ W. Finds d W (meant_of.found Z env)) (sym (named_found Z b s sc)) (found_says hs)
+    pub found_says : {sc : Scope} {env : FlatEnv} → Holds (Some Z) d n sc env → Finds d (found Z (entered_in sc)) (meant_of.found Z env)
+    found_says h_base = record { size = λ x. record { is = refl }; type = λ v. record { is = refl } }
+    found_says (h_bind {b = b} {s = s} {sc = sc} {env = env} h hs) = subst (λ z. Finds d (found Z z) (meant_of.found Z env)) (sym (entered_named b s sc)) (found_says hs)
     found_says (h_entered {q = q} {s = s} {v = v} h hs) =
-        worth_found d (data_found d (results_found d (found_says hs) Z.fields (Z.size_at q) (tells Z s) (meant_of.tells Z v) (λ rs hs' es. tells_say h es)) Z.fields (Z.size_at q) (known_is h)) Z.home q (worth_says h)
+        worth_found d (data_found d (results_found d (found_says hs) Z.fields (Z.size_at q) (tells Z s) (meant_of.tells Z v) (λ rs hs' es. tells_say h es)) Z.fields (Z.size_at q) (known_is h)) Z.home q (Z.size_at q) (worth_says h)
 
     pub tells_say : {s : Known} {v : FlatValue} → Stands (Some Z) d n s v → {rs : List Row} {hs : List Shape} → All_same (Is_shape d) rs hs → Is_shape d (tells Z s rs) (meant_of.tells Z v hs)
     tells_say (s_scalar {c = c} e h) {hs = hs} es = subst (λ z. Is_shape d Unknown_row z) (sym (ap (λ z. meant_of.tells Z z hs) e ∙ data_tells Z c hs)) (unknown d)
@@ -338,19 +318,9 @@ module _ {Z : Sizing} {d : Names Component} {n : ℕ} where
 
 -- ---- where there may be a sizing
 
-element_is : {d : Names Component} {r : Row} (h : Shape) → Is_shape d r h → row_shape d (Rows_of r) ≡ Val (meant_of.row_of h)
-element_is {d} h e = ap (λ z. and_then z met_or_unmet) (rows_met d {p = row_in h} refl e).met ∙ by_shape h
-  where
-    by_shape : (h : Shape) → Val (or_unmet (row_in h)) ≡ Val (meant_of.row_of h)
-    by_shape (Array_shape n h) = refl
-    by_shape (Scalar_shape s) = refl
-    by_shape (Tuple_shape hs) = refl
-    by_shape (Record_shape hs) = refl
-    by_shape Unmet_shape = refl
-
-data_rows : {d : Names Component} {n : ℕ} {us : List Atom} {ds : List Datum} → All_same (Has d n) us ds → All_same (Is_shape d) (map (λ u. rows_in (Shape_of u)) us) (map (λ c. meant_of.row_of (shape_of c)) ds)
+data_rows : {d : Names Component} {n : ℕ} {us : List Atom} {ds : List Datum} → All_same (Has d n) us ds → All_same (Is_shape d) (map (λ u. rows_in (Shape_of u)) us) (map (λ c. row_of (shape_of c)) ds)
 data_rows all_none = all_none
-data_rows {d} (all_more h hs) = all_more (rows_are d (record { met = ap (λ z. and_then z (λ c. Val (Some (shape_of c)))) h.value })) (data_rows hs)
+data_rows {d} (all_more h hs) = all_more (rows_are d (Shape_of _) (record { is = ap (λ z. and_then z (λ c. Val (shape_of c))) h.value })) (data_rows hs)
 
 for_function : {d : Names Component} {n : ℕ} (p : Primitive) {us : List Atom} {ds : List Datum} → All_same (Has d n) us ds → All_same (Is_shape d) (rows_for p us) (meant_of.rows_for p ds)
 for_function {d} prim.Tabulate hs = all_more (scalar_is d _) all_none
@@ -363,7 +333,7 @@ module _ (sizes : Option Sizing) {d : Names Component} {n : ℕ} where
     where
       by_sizing : (z : Option Sizing) {sc : Scope} {env : FlatEnv} → Holds z d n sc env → row_shape d (literal_row z sc lo) ≡ Val (meaning.row_found z (Of_literal env lo))
       by_sizing None h = refl
-      by_sizing (Some Z) h = let k = found_says h in element_is _ (told_is d Z.fields (numbers_found d k) (types_found d k) (Z.size_at lo))
+      by_sizing (Some Z) h = let k = found_says h in (rows_are d _ (told_is d Z.fields (numbers_found d k) k.type (Z.size_at lo))).is
 
   -- a result of a function that does not run
   pub result_shape_is : {s : Known} {f : FlatValue} {us : List Atom} {ds : List Datum} (p : Primitive) → Stands sizes d n s f → All_same (Has d n) us ds → row_shape d (function_row sizes p s us) ≡ Val (meaning.row_found sizes (Of_function p f ds))
@@ -371,7 +341,7 @@ module _ (sizes : Option Sizing) {d : Names Component} {n : ℕ} where
     where
       by_sizing : (z : Option Sizing) {s : Known} {f : FlatValue} {us : List Atom} {ds : List Datum} → Stands z d n s f → All_same (Has d n) us ds → row_shape d (function_row z p s us) ≡ Val (meaning.row_found z (Of_function p f ds))
       by_sizing None h hs = refl
-      by_sizing (Some Z) h hs = shape_is d (tells_say h (for_function p hs))
+      by_sizing (Some Z) h hs = (tells_say h (for_function p hs)).is
 
 -- a size xs an expression is worth this
 pub record Size_is (sizes : Option Sizing) (d : Names Component) (env : FlatEnv) (k : ℕ) (e : Extent) (o : Out FlatValue) : Type 0 where
@@ -384,7 +354,7 @@ unfolding size_value
 size_is None k {e} o h q = absurd (let z : None ≡ Some e = q in cc)
 size_is (Some Z) {d} {n} {sc} {env} k {e} o h q = by_number (Z.is_size k) refl q
   where
-    by_number : (b : Bool) → Z.is_size k ≡ b → cond b (Some (number (found Z sc) (At (Name k)))) None ≡ Some e → Size_is (Some Z) d env k e o
+    by_number : (b : Bool) → Z.is_size k ≡ b → cond b (Some (number (found Z (entered_in sc)) (At (Name k)))) None ≡ Some e → Size_is (Some Z) d env k e o
     by_number true i q =
         record {
           worth = meant.worth (meant_of.found Z env) (At (Name k));
@@ -398,6 +368,6 @@ pub no_size_is : (sizes : Option Sizing) (sc : Scope) (env : FlatEnv) (k : ℕ) 
 no_size_is None sc env k o q = refl
 no_size_is (Some Z) sc env k o q = by_number (Z.is_size k) refl q
   where
-    by_number : (b : Bool) → Z.is_size k ≡ b → cond b (Some (number (found Z sc) (At (Name k)))) None ≡ None → cond (Z.is_size k) (Val (size_value Z env k)) o ≡ o
-    by_number true i q = absurd (let z : Some (number (found Z sc) (At (Name k))) ≡ None = q in cc)
+    by_number : (b : Bool) → Z.is_size k ≡ b → cond b (Some (number (found Z (entered_in sc)) (At (Name k)))) None ≡ None → cond (Z.is_size k) (Val (size_value Z env k)) o ≡ o
+    by_number true i q = absurd (let z : Some (number (found Z (entered_in sc)) (At (Name k))) ≡ None = q in cc)
     by_number false i q = ap (λ z. cond z (Val (size_value Z env k)) o) i

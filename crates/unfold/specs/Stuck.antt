@@ -21,7 +21,7 @@ use Rattle.fut_meaning.specs.Programs.{is_reached}
 use Rattle.fut_blocks.specs.declared.block.Atom.{Atom}
 use Rattle.fut_blocks.specs.Meaning.{look}
 use Rattle.fut_blocks.specs.Rows.{Row, Size_test}
-use Rattle.unfold.specs.Knowns.{Known, Scalar_known, Tuple_known, Function_known, Primitive_known, Knowns, no_known, Scope, no_name, name_and, Tops, listed, find}
+use Rattle.unfold.specs.Knowns.{Known, Scalar_known, Tuple_known, Function_known, Primitive_known, Knowns, no_known, Scope, nothing_seen, name_and, Tops, listed, find}
 use Rattle.unfold.specs.Shapes.{Shape, Shapes, Laid, All_laid}
 use Rattle.unfold.specs.Telling.{size_used, enter}
 use Rattle.unfold.specs.Unfolding.{Bindings, named, Binds, Operates, Primitive_operates, Packs_all, data_known, function_known, Unfolds, Unfold_all, Applies, Applies_all}
@@ -139,8 +139,8 @@ mutual
 
 -- the definitions that are reached, in their order
 pub data Definitions_stuck (told : Told) (entry : ℕ) : Tops → List FlatTop → Type 0 where
-  stuck_definition : {tops : Tops} {d : FlatTop} {ds : List FlatTop} → is_reached is_flat_use entry ds d.number ≡ true → Stuck told tops no_name d.first d.value → Definitions_stuck told entry tops (d ∷ ds)
-  stuck_next : {tops : Tops} {d : FlatTop} {ds : List FlatTop} {n n' : ℕ} {bs : Bindings} {s : Known} → is_reached is_flat_use entry ds d.number ≡ true → Unfolds told tops no_name d.first d.value n bs s n' → Definitions_stuck told entry ((d.number, s) ∷ tops) ds → Definitions_stuck told entry tops (d ∷ ds)
+  stuck_definition : {tops : Tops} {d : FlatTop} {ds : List FlatTop} → is_reached is_flat_use entry ds d.number ≡ true → Stuck told tops nothing_seen d.first d.value → Definitions_stuck told entry tops (d ∷ ds)
+  stuck_next : {tops : Tops} {d : FlatTop} {ds : List FlatTop} {n n' : ℕ} {bs : Bindings} {s : Known} → is_reached is_flat_use entry ds d.number ≡ true → Unfolds told tops nothing_seen d.first d.value n bs s n' → Definitions_stuck told entry ((d.number, s) ∷ tops) ds → Definitions_stuck told entry tops (d ∷ ds)
   stuck_other : {tops : Tops} {d : FlatTop} {ds : List FlatTop} → is_reached is_flat_use entry ds d.number ≡ false → Definitions_stuck told entry tops ds → Definitions_stuck told entry tops (d ∷ ds)
 
 -- a program from an entry on, whose parameters are data of these shapes

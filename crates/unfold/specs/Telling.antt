@@ -1,7 +1,9 @@
 -- What the meaning finds of sizes in values that were entered, and what it lets functions tell of their results, found in what
--- is known of them before the program runs: the same search on rows in place of shapes. Where a shape is not known, what is
--- sought may stand in several places, of which the first that is there counts when the program runs.
-use Rattle.std.specs.Prelude.{ℕ, zero, suc, ◌-◌, ◌++◌, Bool, true, false, ◌&&◌, cond, nat_eq, List, [], ◌∷◌, map, Option, Some, None}
+-- is known of them before the program runs: the same search on rows in place of shapes. What a function tells of its results is
+-- kept when it is entered, and of what is told a part is taken at once, so that no row is told twice and none grows with the
+-- functions that it was found through.
+use Rattle.std.specs.Prelude.{ℕ, zero, suc, ◌-◌, Bool, true, false, ◌&&◌, cond, nat_eq, List, [], ◌∷◌, map, Option, Some, None}
+use Rattle.std.specs.Str.{bytes_eq}
 use Rattle.fut_scalar.specs.declared.scalar.IntType.TheVariants.{I32, I64}
 use Rattle.fut_scalar.specs.declared.scalar.ScalarType.TheVariants as sort
 use Rattle.fut_ast.specs.Sorts.{Text}
@@ -10,56 +12,56 @@ use Rattle.fut_flat.specs.declared.prim.Primitive.TheVariants as prim
 use Rattle.fut_flat.specs.Numbers.{all_pattern_numbers}
 use Rattle.fut_types.specs.declared.Head.{Head}
 use Rattle.fut_types.specs.declared.Head.TheVariants as head
-use Rattle.sized_types.specs.Sizes.{Free, Const, Name, Dim, At, Bound, Variable, is_variable, Size, Hole, Open, Level, Built, Fun, Sizes, no_size, size_and, is_dim}
+use Rattle.sized_types.specs.Sizes.{Free, Const, Name, Dim, At, Bound, Variable, Size, Hole, Open, Level, Built, Fun, Sizes, no_size, size_and}
 use Rattle.sized_types.specs.Standing.{is_known, gives_chosen}
-use Rattle.fut_meaning.specs.Found.{Sizing}
+use Rattle.fut_meaning.specs.Found.{Sizing, is_number}
+use Rattle.fut_meaning.specs.Places.{Path, Whole, In_rows, In_part, In_field, size_place, type_place, on_place}
 use Rattle.fut_meaning.specs.Telling.{nodes_from}
 use Rattle.fut_meaning.specs.Values.{is_before}
 use Rattle.fut_blocks.specs.declared.block.Atom.{Atom}
-use Rattle.fut_blocks.specs.Rows.{Row, Unknown_row, Scalar_row, Tuple_row, Record_row, Array_row, Shape_of, Rows_of, Part_of, Field_of, Unzipped_row, First_of, Rows, no_row, row_and, Named_rows, no_named_row, named_row_and, Extent, Reading, Exactly, Worth_of, Length_of, Size_test, Any_size, Array_test, Tuple_test, Record_test, Size_tests, no_test, test_and, Named_tests, no_named_test, named_test_and, rows, extent}
-use Rattle.unfold.specs.Knowns.{Known, Scalar_known, Tuple_known, Record_known, Function_known, Primitive_known, Knowns, no_known, known_and, Known_fields, no_known_field, known_field_and, Scope, no_name, branch, entry}
+use Rattle.fut_blocks.specs.Rows.{Row, Unknown_row, Scalar_row, Tuple_row, Record_row, Array_row, Shape_of, Rows_of, Part_of, Field_of, Unzipped_row, Rows, no_row, row_and, Named_rows, no_named_row, named_row_and, Extent, Nowhere, Exactly, Worth_of, Length_of, Size_test, Any_size, Array_test, Tuple_test, Record_test, Size_tests, no_test, test_and, Named_tests, no_named_test, named_test_and, rows}
+use Rattle.unfold.specs.Knowns.{Known, Scalar_known, Tuple_known, Record_known, Function_known, Primitive_known, Knowns, no_known, known_and, Known_fields, no_known_field, known_field_and, Scope, seeing, names_in, entered_in, Entered, no_entry, entry}
 
--- the first that is there, or else what nothing has given
-abbrev pub or_unknown : List Row → Row
-or_unknown rs = First_of (rows (rs ++ Unknown_row ∷ []))
+-- ---- what stands at a place of data that has a shape; of what is made of parts, the part itself
 
--- ---- where a sized type has its levels and type variables, in data of a shape
+abbrev pub rows_in : Row → Row
+rows_in (Array_row e r) = r
+rows_in r = Rows_of r
 
-abbrev pub in_head : {A : Type 0} → Head → List A → (ℕ → List A) → List A
-in_head head.Tuple parts named = parts
-in_head (head.Record n) parts named = named n
-in_head h parts named = []
+-- the parts of one tuple or record that is not there tell nothing
+abbrev pub part_at : ℕ → Rows → Row
+part_at k no_row = Unknown_row
+part_at zero (row_and r rs) = r
+part_at (suc k) (row_and r rs) = part_at k rs
 
-module _ (fields : ℕ → List Text) {A : Type 0} (at_level : Dim → Row → List A) (at_hole : Variable → Row → List A) where
-  -- all places, in their order
-  unfoldable mutual
-    pub sought : Size → Row → List A
-    sought (Hole v) r = at_hole v r
-    sought (Open n v u) r = []
-    sought (Level d t) r = at_level d r ++ sought t (Rows_of r)
-    sought (Built h ts) r = in_head h (all_sought 0 ts r) (λ n. named_sought (fields n) ts r)
-    sought (Fun k p q) r = []
+abbrev pub part_in : ℕ → Row → Row
+part_in k (Tuple_row rs) = part_at k rs
+part_in k r = Part_of k r
 
-    pub all_sought : ℕ → Sizes → Row → List A
-    all_sought k no_size r = []
-    all_sought k (size_and t ts) r = sought t (Part_of k r) ++ all_sought (suc k) ts r
+abbrev pub field_at : Text → Named_rows → Row
+field_at f no_named_row = Unknown_row
+field_at f (named_row_and g r rs) = cond (bytes_eq g f) r (field_at f rs)
 
-    pub named_sought : List Text → Sizes → Row → List A
-    named_sought fs no_size r = []
-    named_sought [] (size_and t ts) r = []
-    named_sought (f ∷ fs) (size_and t ts) r = sought t (Field_of f r) ++ named_sought fs ts r
+abbrev pub field_in : Text → Row → Row
+field_in f (Record_row fs) = field_at f fs
+field_in f r = Field_of f r
 
-abbrev pub length_if : Dim → Dim → Row → List Reading
-length_if x d r = cond (is_dim d x) (Length_of r ∷ []) []
+abbrev pub at_row : Path → Row → Row
+at_row Whole r = r
+at_row (In_rows p) r = at_row p (rows_in r)
+at_row (In_part k p) r = at_row p (part_in k r)
+at_row (In_field f p) r = at_row p (field_in f r)
 
-abbrev pub row_if : Variable → Variable → Row → List Row
-row_if x v r = cond (is_variable v x) (r ∷ []) []
+-- as many rows as an extent says: what is told nowhere counts 0, and so does what is worth less
+abbrev pub as_many : Extent → Extent
+as_many Nowhere = Exactly 0
+as_many (Exactly n) = Exactly n
+as_many (Worth_of u) = Length_of (Array_row (Worth_of u) Unknown_row)
+as_many (Length_of r) = Length_of r
 
-abbrev pub size_in : (ℕ → List Text) → Dim → Size → Row → List Reading
-size_in fields x = sought fields (length_if x) (λ v r. [])
-
-abbrev pub type_in : (ℕ → List Text) → Variable → Size → Row → List Row
-type_in fields x = sought fields (λ d r. []) (row_if x)
+abbrev pub length_of : Row → Extent
+length_of (Array_row e r) = as_many e
+length_of r = Length_of r
 
 -- ---- data of a sized type, where sizes have these extents and type variables stand for these rows
 
@@ -94,11 +96,11 @@ unfoldable mutual
 -- in the result of a function type, whose parameter's data has a shape: the sizes that the caller chooses stand in that
 abbrev pub pushed : (ℕ → List Text) → Size → Row → (Dim → Extent) → Dim → Extent
 pushed fields p r number (At d) = number (At d)
-pushed fields p r number (Bound zero i) = extent (size_in fields (Bound 0 i) p r)
+pushed fields p r number (Bound zero i) = on_place (size_place fields (Bound 0 i) p) (λ q. length_of (at_row q r)) Nowhere
 pushed fields p r number (Bound (suc j) i) = number (Bound j i)
 
 abbrev pub typed_by : (ℕ → List Text) → Size → Row → (Variable → Row) → Variable → Row
-typed_by fields p r type v = First_of (rows (type_in fields v p r ++ type v ∷ []))
+typed_by fields p r type v = on_place (type_place fields v p) (λ q. at_row q r) (type v)
 
 -- what a function of a sized type gives for arguments of these shapes
 unfoldable pub result_row : (ℕ → List Text) → (Dim → Extent) → (Variable → Row) → Size → List Row → Row
@@ -106,61 +108,60 @@ result_row fields number type t [] = told_row fields number type t
 result_row fields number type (Fun k p r) (h ∷ hs) = result_row fields (pushed fields p h number) (typed_by fields p h type) r hs
 result_row fields number type t (h ∷ hs) = Unknown_row
 
--- ---- what is found: where the integers stand that sizes are worth, and what type variables stand for
+-- ---- what is found: what sizes are worth, and what type variables stand for
 
 pub record Found : Type 0 where
-  pub size : Free → List Reading
-  pub type : Variable → List Row
+  pub size : Free → Extent
+  pub type : Variable → Row
 
 abbrev pub nothing_found : Found
-nothing_found = record { size = λ d. []; type = λ v. [] }
+nothing_found = record { size = λ d. Nowhere; type = λ v. Unknown_row }
 
 -- a constant is worth itself
-abbrev pub worth : Found → Dim → List Reading
-worth W (At (Const c)) = Exactly c ∷ []
-worth W (At d) = W.size d
-worth W (Bound j i) = []
-
 abbrev pub number : Found → Dim → Extent
-number W d = extent (worth W d)
+number W (At (Const c)) = Exactly c
+number W (At d) = W.size d
+number W (Bound j i) = Nowhere
 
-abbrev pub row_found : Found → Variable → Row
-row_found W v = or_unknown (W.type v)
-
--- data of a sized type has a shape
+-- data of a sized type has a shape: of what has a place in that type, what stands there
 abbrev pub with_data : (ℕ → List Text) → Size → Row → Found → Found
-with_data fields t r W = record { size = λ d. size_in fields (At d) t r ++ W.size d; type = λ v. type_in fields v t r ++ W.type v }
+with_data fields t r W = record { size = λ d. on_place (size_place fields (At d) t) (λ p. length_of (at_row p r)) (W.size d); type = λ v. on_place (type_place fields v t) (λ p. at_row p r) (W.type v) }
 
 -- a function's parameter, where each size that the caller chooses is 0
 abbrev pub chosen_none : Dim → Extent
-chosen_none (At (Const c)) = extent (Exactly c ∷ [])
-chosen_none d = extent []
+chosen_none (At (Const c)) = Exactly c
+chosen_none d = Nowhere
 
 abbrev pub chosen_row : (ℕ → List Text) → Size → Row
 chosen_row fields p = told_row fields chosen_none (λ v. Unknown_row) p
+
+-- what a function of a sized type tells of its results, where the shape of what it takes is known by itself
+abbrev pub results_row : (ℕ → List Text) → Size → (List Row → Row) → Row
+results_row fields (Fun k p r) tell = cond (is_known p && gives_chosen k r) (tell (chosen_row fields p ∷ [])) Unknown_row
+results_row fields t tell = Unknown_row
 
 abbrev pub if_told : Bool → Found → Found → Found
 if_told true told W = told
 if_told false told W = W
 
--- a function of a sized type tells this of its results
-unfoldable pub with_results : (ℕ → List Text) → Size → (List Row → Row) → Found → Found
-with_results fields (Fun k p r) tell W = if_told (is_known p && gives_chosen k r) (with_data fields r (tell (chosen_row fields p ∷ [])) W) W
-with_results fields t tell W = W
+-- its results have this shape
+abbrev pub with_results : (ℕ → List Text) → Size → Row → Found → Found
+with_results fields (Fun k p q) r W = if_told (is_known p && gives_chosen k q) (with_data fields q r W) W
+with_results fields t r W = W
 
-abbrev pub named_worth : (ℕ → ℕ) → ℕ → List Reading → Free → List Reading
-named_worth home q gs (Name b) = cond (nat_eq (home b) q) gs []
-named_worth home q gs d = []
+abbrev pub named_worth : (ℕ → ℕ) → ℕ → Size → Extent → Free → Extent → Extent
+named_worth home q t e (Name b) o = cond (nat_eq (home b) q && is_number t) e o
+named_worth home q t e d o = o
 
--- the name that the pattern at a node binds is worth this
-abbrev pub with_worth : (ℕ → ℕ) → ℕ → List Reading → Found → Found
-with_worth home q gs W = record { size = λ d. named_worth home q gs d ++ W.size d; type = W.type }
+-- the name of a number that the pattern at a node binds is worth this
+abbrev pub with_worth : (ℕ → ℕ) → ℕ → Size → Extent → Found → Found
+with_worth home q t e W = record { size = λ d. named_worth home q t e d (W.size d); type = W.type }
 
 -- ---- primitives
 
 -- data that a primitive has as an argument: its shape, and what it is worth as a size
 abbrev pub Argument : Type 0
-Argument = Row × List Reading
+Argument = Row × Extent
 
 -- what the result is, or so many rows of what its function tells for arguments of these shapes
 pub data Telling : Type 0 where
@@ -170,12 +171,6 @@ pub data Telling : Type 0 where
 abbrev pub by_function : (List Row → Row) → Telling → Row
 by_function f (Of_row r) = r
 by_function f (Of_rows e rs) = Array_row e (f rs)
-
-abbrev pub rows_in : Row → Row
-rows_in r = or_unknown (Rows_of r ∷ [])
-
-abbrev pub length_of : Row → Extent
-length_of r = extent (Length_of r ∷ [])
 
 abbrev pub argument_row : Argument → Row
 argument_row a = rows_in a.0
@@ -213,15 +208,15 @@ unzipped_row (a ∷ []) = Of_row (Unzipped_row (length_of a.0) (rows_in a.0))
 unzipped_row bs = Of_row Unknown_row
 
 abbrev pub replicated : List Argument → Telling
-replicated (n ∷ a ∷ []) = Of_row (Array_row (extent n.1) a.0)
+replicated (n ∷ a ∷ []) = Of_row (Array_row n.1 a.0)
 replicated bs = Of_row Unknown_row
 
 abbrev pub counted : List Argument → Telling
-counted (n ∷ []) = Of_row (Array_row (extent n.1) i64_row)
+counted (n ∷ []) = Of_row (Array_row n.1 i64_row)
 counted bs = Of_row Unknown_row
 
 abbrev pub tabulated : List Argument → Telling
-tabulated (n ∷ []) = Of_rows (extent n.1) (i64_row ∷ [])
+tabulated (n ∷ []) = Of_rows n.1 (i64_row ∷ [])
 tabulated bs = Of_row Unknown_row
 
 abbrev pub indices_row : List Argument → Telling
@@ -229,7 +224,7 @@ indices_row (a ∷ []) = Of_row (Array_row (length_of a.0) i64_row)
 indices_row bs = Of_row Unknown_row
 
 abbrev pub unflattened : List Argument → Telling
-unflattened (n ∷ m ∷ a ∷ []) = Of_row (Array_row (extent n.1) (Array_row (extent m.1) (rows_in a.0)))
+unflattened (n ∷ m ∷ a ∷ []) = Of_row (Array_row n.1 (Array_row m.1 (rows_in a.0)))
 unflattened bs = Of_row Unknown_row
 
 abbrev pub transposed : List Argument → Telling
@@ -276,9 +271,9 @@ primitive_tells p bs = Of_row Unknown_row
 -- ---- what is known of values
 
 -- where a value's worth as a size stands
-abbrev pub known_worth : Known → List Reading
-known_worth (Scalar_known u) = Worth_of u ∷ []
-known_worth s = []
+abbrev pub known_worth : Known → Extent
+known_worth (Scalar_known u) = Worth_of u
+known_worth s = Nowhere
 
 -- the shape of a value; that of a function is not known
 unfoldable mutual
@@ -309,28 +304,27 @@ data_told (known_and s ss) bs = cond (is_function s) (data_told ss bs) ((known_r
 
 abbrev pub to_come : List Row → List Argument
 to_come [] = []
-to_come (r ∷ rs) = (r, []) ∷ to_come rs
+to_come (r ∷ rs) = (r, Nowhere) ∷ to_come rs
 
 module _ (Z : Sizing) where
+  -- what is found in what was entered
+  unfoldable pub found : Entered → Found
+  found no_entry = nothing_found
+  found (entry q s r es) = with_worth Z.home q (Z.size_at q) (known_worth s) (with_data Z.fields (Z.size_at q) (known_row s) (with_results Z.fields (Z.size_at q) r (found es)))
+
   -- what a function gives whose parameters' patterns stand at these nodes, and whose body's first is `lo`
   unfoldable pub closure_tells : List ℕ → ℕ → List Row → Found → Row
-  closure_tells [] lo rs W = result_row Z.fields (number W) (row_found W) (Z.size_at lo) rs
+  closure_tells [] lo rs W = result_row Z.fields (number W) W.type (Z.size_at lo) rs
   closure_tells (q ∷ qs) lo [] W = Unknown_row
   closure_tells (q ∷ qs) lo (r ∷ rs) W = closure_tells qs lo rs (with_data Z.fields (Z.size_at q) r W)
 
   unfoldable mutual
-    -- what is found under these names
-    pub found : Scope → Found
-    found no_name = nothing_found
-    found (branch b s even odd) = nothing_found
-    found (entry q s sc) = with_worth Z.home q (known_worth s) (with_data Z.fields (Z.size_at q) (known_row s) (with_results Z.fields (Z.size_at q) (tells s) (found sc)))
-
     -- what a function gives for arguments of these shapes
     pub tells : Known → List Row → Row
     tells (Scalar_known u) rs = Unknown_row
     tells (Tuple_known ss) rs = Unknown_row
     tells (Record_known fs) rs = Unknown_row
-    tells (Function_known ps e lo sc) rs = closure_tells (nodes_from ps (lo - all_pattern_numbers ps)) lo rs (found sc)
+    tells (Function_known ps e lo sc) rs = closure_tells (nodes_from ps (lo - all_pattern_numbers ps)) lo rs (found (entered_in sc))
     tells (Primitive_known p at ss) rs = by_function (function_tells ss) (primitive_tells p (data_told ss (to_come rs)))
 
     -- by the one function among the arguments of a primitive
@@ -372,7 +366,7 @@ unfoldable mutual
 -- the row of an array literal at a node without elements
 abbrev pub literal_row : Option Sizing → Scope → ℕ → Row
 literal_row None sc lo = Unknown_row
-literal_row (Some Z) sc lo = Rows_of (told_row Z.fields (number (found Z sc)) (row_found (found Z sc)) (Z.size_at lo))
+literal_row (Some Z) sc lo = rows_in (told_row Z.fields (number (found Z (entered_in sc))) (found Z (entered_in sc)).type (Z.size_at lo))
 
 -- a result of the function of a primitive with these data
 abbrev pub function_row : Option Sizing → Primitive → Known → List Atom → Row
@@ -382,14 +376,18 @@ function_row (Some Z) p f us = tells Z f (rows_for p us)
 -- the sizes of the type at a node
 abbrev pub test_at : Option Sizing → Scope → ℕ → Option Size_test
 test_at None sc lo = None
-test_at (Some Z) sc lo = Some (size_test Z.fields (found Z sc) (Z.size_at lo))
+test_at (Some Z) sc lo = Some (size_test Z.fields (found Z (entered_in sc)) (Z.size_at lo))
 
 -- where a number is that of a size, what the size is worth
 abbrev pub size_used : Option Sizing → Scope → ℕ → Option Extent
 size_used None sc k = None
-size_used (Some Z) sc k = cond (Z.is_size k) (Some (number (found Z sc) (At (Name k)))) None
+size_used (Some Z) sc k = cond (Z.is_size k) (Some (number (found Z (entered_in sc)) (At (Name k)))) None
+
+-- what is entered with a pattern at a node
+abbrev pub entered_with : Sizing → ℕ → Known → Entered → Entered
+entered_with Z q s es = entry q s (results_row Z.fields (Z.size_at q) (tells Z s)) es
 
 -- the names, where a pattern at a node was entered with what is known
 abbrev pub enter : Option Sizing → ℕ → Known → Scope → Scope
 enter None q s sc = sc
-enter (Some Z) q s sc = entry q s sc
+enter (Some Z) q s sc = seeing (names_in sc) (entered_with Z q s (entered_in sc))

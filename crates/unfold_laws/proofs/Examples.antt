@@ -14,7 +14,7 @@ use Rattle.fut_typing.specs.Primitives.{array_ty, bool_ty, i64_ty, pair_ty}
 use Rattle.fut_meaning.specs.Arrays.{Make_array}
 use Rattle.fut_blocks.specs.declared.block.Atom.TheVariants as atom
 use Rattle.fut_blocks.specs.declared.block.Operation.TheVariants as operation
-use Rattle.fut_blocks.specs.Rows.{Unknown_row, Rows_of, Shape_of, Length_of, no_reading, reading_or, Any_size}
+use Rattle.fut_blocks.specs.Rows.{Unknown_row, Rows_of, Shape_of, Length_of, Any_size}
 use Rattle.fut_blocks.specs.Plain.{Size_of, Coerce, Action, Operate, Make, Job, If, Give, Let}
 use Rattle.unfold.specs.Shapes.{Scalar_shape, Tuple_shape, no_shape, shape_and}
 use Rattle.unfold_laws.specs.Components.{components, all_components}
@@ -111,16 +111,16 @@ module _ (N : Names) (K : Kinds) where
 
   -- how many rows an array has, as a size
   rows_as_a_size : Action
-  rows_as_a_size = Size_of (reading_or (Length_of (Shape_of (atom.Name 0))) no_reading)
+  rows_as_a_size = Size_of (Length_of (Shape_of (atom.Name 0)))
 
   sizes_are_typed : Act_typed N K any_types rows_as_a_size (with_name 0 (array_ty byte) of_constants) (more i64_ty none)
   unfolding Act_typed rows_as_a_size
-  sizes_are_typed = (((array_ty byte, inl (inl (refl, refl))), tt), refl)
+  sizes_are_typed = ((array_ty byte, inl (inl (refl, refl))), refl)
 
   -- where the array is not there it has no type, nor has a test of it
   sizes_of_nothing_have_no_type : (ts : Tys) → Act_typed N K any_types rows_as_a_size of_constants ts → ⊥
   unfolding Act_typed rows_as_a_size
-  sizes_of_nothing_have_no_type ts (((t, h), x), e) = absurd h
+  sizes_of_nothing_have_no_type ts ((t, h), e) = absurd h
 
   tests_of_nothing_have_no_type : (ts : Tys) → Act_typed N K any_types (Coerce here Any_size (Rows_of (Shape_of (atom.Name 0)))) of_constants ts → ⊥
   unfolding Act_typed

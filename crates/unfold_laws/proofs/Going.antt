@@ -24,7 +24,7 @@ use Rattle.fut_typing.specs.Scopes.{Scope, Used}
 use Rattle.fut_typing.specs.Typing.{FlatBinding}
 use Rattle.fut_meaning.specs.Uses.{is_size_in}
 use Rattle.type_soundness.specs.Meant.{Use_meant}
-use Rattle.unfold.specs.Knowns.{Known, name_and, Scalar_known, Function_known, Scope as Seen, find}
+use Rattle.unfold.specs.Knowns.{Known, name_and, Scalar_known, Function_known, Scope as Seen, entered_in, find}
 use Rattle.unfold.specs.Shapes.{Shape, Laid}
 use Rattle.sized_types.specs.Sizes.{Name, At as Free_size}
 use Rattle.unfold.specs.Telling.{number, found, literal_row, test_at, size_used, enter}
@@ -54,11 +54,11 @@ Binds_well N T K there seen p s Q = Bindable p s × ((q : ℕ) (inner : Seen) (n
 -- a number is that of a size, or it is not
 size_there : (z : Option Sizing) (sc : Seen) (k : ℕ) → is_size_in z k ≡ true → (e : Extent) × (size_used z sc k ≡ Some e)
 size_there None sc k is = absurd (let y : false ≡ true = is in cc)
-size_there (Some Z) sc k is = (number (found Z sc) (Free_size (Name k)), ap (λ b. cond b (Some (number (found Z sc) (Free_size (Name k)))) None) is)
+size_there (Some Z) sc k is = (number (found Z (entered_in sc)) (Free_size (Name k)), ap (λ b. cond b (Some (number (found Z (entered_in sc)) (Free_size (Name k)))) None) is)
 
 no_size_there : (z : Option Sizing) (sc : Seen) (k : ℕ) → is_size_in z k ≡ false → size_used z sc k ≡ None
 no_size_there None sc k is = refl
-no_size_there (Some Z) sc k is = ap (λ b. cond b (Some (number (found Z sc) (Free_size (Name k)))) None) is
+no_size_there (Some Z) sc k is = ap (λ b. cond b (Some (number (found Z (entered_in sc)) (Free_size (Name k)))) None) is
 
 module _ (N : Names) (are : AreNames N) (T : Told) (P : ℕ → Type 0) (K : Kinds) where
   abbrev At : World → Ty → Known → Type 0

@@ -26,7 +26,7 @@ use Rattle.fut_blocks.specs.Plain as act
 use Rattle.type_soundness.specs.Fits.{widest}
 use Rattle.fut_meaning.specs.Uses.{is_size_in}
 use Rattle.type_soundness.specs.Formed.{Are_sizes, Heads_sized, Pattern_apart, Patterns_apart}
-use Rattle.unfold.proofs.Names.{found_here, found_on}
+use Rattle.unfold.proofs.Locals.{found_here, found_on}
 use Rattle.unfold.specs.Knowns.{Known, Scalar_known, Tuple_known, Record_known, Knowns, Known_fields, Scope as Seen, name_and, listed, find, local, local_by, record_parts}
 use Rattle.unfold.specs.Telling.{enter}
 use Rattle.unfold.specs.Unfolding.{Bindings, step, names, named, Binds, b_bound, b_wild, b_tuple, b_parts, b_record, b_fields, b_typed, All_bind, b_none, b_more}
@@ -37,6 +37,7 @@ use Rattle.unfold_laws.proofs.Entered.{entered_as, named_entered}
 use Rattle.unfold_laws.proofs.Fitting.{some_same, find_learns, stands_learn, fits_learn, fits_stand, fits_data, data_fits}
 use Rattle.unfold_laws.proofs.Recording.{Each_fits, each_learn, each_listed, record_parts_fit, known_parts_fit, component_parts}
 use Rattle.unfold_laws.proofs.Shaping.{tuple_is}
+use Rattle.unfold_laws.proofs.Telling.{enter_all}
 use Rattle.unfold_laws.proofs.TypedSteps.{comes_none, comes_then, comes_step, stand_are, names_length}
 
 -- a pattern binds its names, whatever they stand before
@@ -86,7 +87,7 @@ module _ (N : Names) (T : Told) (P : ℕ → Type 0) (K : Kinds) where
   pub entered_fit : (z : Option Sizing) (world : World) (q : ℕ) (s : Known) (scope : Scope) (a : Sub) (sc : Seen) → All_in_known (Stands (types_of N K world.1)) s → Names_fit N T world P scope K a sc → Names_fit N T world P scope K a (enter z q s sc)
   unfolding find local local_by
   entered_fit None world q s scope a sc k h = h
-  entered_fit (Some Z) world q s scope a sc k h = ((k, h.0), h.1)
+  entered_fit (Some Z) world q s scope a sc k h = (enter_all (Stands (types_of N K world.1)) (Some Z) q s sc k h.0, h.1)
 
   pub names_enter : (world : World) (q : ℕ) (t : Ty) (s : Known) (scope : Scope) (a : Sub) (sc : Seen) → Fits N T K t world s → Names_fit N T world P scope K a sc → Names_fit N T world P scope K a (enter T.sizes q s sc)
   names_enter world q t s scope a sc k h = entered_fit T.sizes world q s scope a sc (fits_stand N T K world t s k) h

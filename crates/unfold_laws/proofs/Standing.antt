@@ -2,14 +2,15 @@
 use Rattle.std.proofs.Common.{Bool, true, false, Option, Some, None}
 use Rattle.fut_value.specs.Data.{Shape, Scalar_shape, Tuple_shape, Record_shape, Array_shape, Unmet_shape, Shapes, no_shape, shape_and, Named_shapes}
 use Rattle.fut_meaning.specs.Claims.{HasOut}
-use Rattle.fut_meaning.specs.Found.{agrees, field_shape}
-use Rattle.fut_meaning.specs.Outcomes.{Out, and_then}
+use Rattle.fut_meaning.specs.Found.{agrees}
+use Rattle.fut_meaning.specs.Outcomes.{Out}
+use Rattle.fut_meaning.specs.Places.{field_shape}
 use Rattle.fut_blocks.specs.declared.block.Atom.{Atom}
 use Rattle.fut_blocks.specs.Names.{Component, Names, value_of}
-use Rattle.fut_blocks.specs.Rows.{Row, Unknown_row, Scalar_row, Tuple_row, Record_row, Array_row, Shape_of, Rows_of, Part_of, Field_of, Unzipped_row, First_of, Rows, no_row, row_and, Named_rows, no_named_row, named_row_and, Extent, no_reading, reading_or, Reading, Exactly, Worth_of, Length_of, Size_test, Any_size, Array_test, Tuple_test, Record_test, Size_tests, no_test, test_and, Named_tests, no_named_test, named_test_and}
-use Rattle.fut_blocks.specs.Sizes.{or_later, row_met, row_shape, row_shapes, named_shapes, first_met, extent_worth, reading_worth, met_or_unmet, where_there, and_also, passes, all_pass, named_pass}
+use Rattle.fut_blocks.specs.Rows.{Row, Unknown_row, Scalar_row, Tuple_row, Record_row, Array_row, Shape_of, Rows_of, Part_of, Field_of, Unzipped_row, Rows, no_row, row_and, Named_rows, no_named_row, named_row_and, Extent, Nowhere, Exactly, Worth_of, Length_of, Size_test, Any_size, Array_test, Tuple_test, Record_test, Size_tests, no_test, test_and, Named_tests, no_named_test, named_test_and}
+use Rattle.fut_blocks.specs.Sizes.{row_shape, row_shapes, named_shapes, extent_worth, where_there, and_also, passes, all_pass, named_pass}
 use Rattle.type_soundness.proofs.Binding.{has_then}
-use Rattle.unfold_laws.specs.Standing.{All_in_row, All_in_rows, All_in_fields, All_in_extent, All_in_reading, All_in_test, All_in_tests, All_in_field_tests}
+use Rattle.unfold_laws.specs.Standing.{All_in_row, All_in_rows, All_in_fields, All_in_extent, All_in_test, All_in_tests, All_in_field_tests}
 
 module _ (P Q : Atom → Type 0) (go : (u : Atom) → P u → Q u) where
   mutual
@@ -24,7 +25,6 @@ module _ (P Q : Atom → Type 0) (go : (u : Atom) → P u → Q u) where
     row_as (Part_of k r) h = row_as r h
     row_as (Field_of f r) h = row_as r h
     row_as (Unzipped_row e r) h = (extent_as e h.0, row_as r h.1)
-    row_as (First_of rs) h = rows_as rs h
 
     rows_as : (rs : Rows) → All_in_rows P rs → All_in_rows Q rs
     rows_as no_row h = tt
@@ -35,13 +35,10 @@ module _ (P Q : Atom → Type 0) (go : (u : Atom) → P u → Q u) where
     fields_as (named_row_and f r fs) h = (row_as r h.0, fields_as fs h.1)
 
     pub extent_as : (e : Extent) → All_in_extent P e → All_in_extent Q e
-    extent_as no_reading h = tt
-    extent_as (reading_or g gs) h = (reading_as g h.0, extent_as gs h.1)
-
-    reading_as : (g : Reading) → All_in_reading P g → All_in_reading Q g
-    reading_as (Exactly n) h = tt
-    reading_as (Worth_of u) h = go u h
-    reading_as (Length_of r) h = row_as r h
+    extent_as Nowhere h = tt
+    extent_as (Exactly n) h = tt
+    extent_as (Worth_of u) h = go u h
+    extent_as (Length_of r) h = row_as r h
 
   mutual
     pub test_as : (t : Size_test) → All_in_test P t → All_in_test Q t
@@ -62,10 +59,6 @@ module _ (P Q : Atom → Type 0) (go : (u : Atom) → P u → Q u) where
 abbrev pub Any : {A : Type 0} → A → Type 0
 Any a = Unit {0}
 
-later_out : {A : Type 0} (o : Option A) (later : Out (Option A)) → HasOut Any later → HasOut Any (or_later o later)
-later_out (Some a) later h = tt
-later_out None later h = h
-
 also_out : (b : Bool) (o : Out Bool) → HasOut Any o → HasOut Any (and_also b o)
 also_out true o h = h
 also_out false o h = tt
@@ -74,51 +67,33 @@ there_out : (o : Option Shape) (test : Shape → Out Bool) → ((h : Shape) → 
 there_out (Some h) test a = a h
 there_out None test a = tt
 
-unmet_out : (o : Option Shape) → HasOut Any (met_or_unmet o)
-unmet_out (Some h) = tt
-unmet_out None = tt
-
-or_unmet_out : (o : Out (Option Shape)) → HasOut Any o → HasOut Any (and_then o met_or_unmet)
-or_unmet_out o h = has_then Any Any o met_or_unmet h (λ m x. unmet_out m)
-
 module _ (env : Names Component) (P : Atom → Type 0) (stands : (u : Atom) → P u → HasOut Any (value_of env u)) where
   mutual
-    met_out : (r : Row) → All_in_row P r → HasOut Any (row_met env r)
-    met_out Unknown_row h = tt
-    met_out (Scalar_row t) h = tt
-    met_out (Tuple_row rs) h = has_then Any Any (row_shapes env rs) _ (shapes_out rs h) (λ hs x. tt)
-    met_out (Record_row fs) h = has_then Any Any (named_shapes env fs) _ (named_out fs h) (λ hs x. tt)
-    met_out (Array_row e r) h = has_then Any Any (extent_worth env e) _ (extent_out e h.0) (λ z x. has_then Any Any (and_then (row_met env r) met_or_unmet) _ (or_unmet_out (row_met env r) (met_out r h.1)) (λ s y. tt))
-    met_out (Shape_of u) h = has_then Any Any (value_of env u) _ (stands u h) (λ d x. tt)
-    met_out (Rows_of r) h = has_then Any Any (row_met env r) _ (met_out r h) (λ o x. tt)
-    met_out (Part_of k r) h = has_then Any Any (row_met env r) _ (met_out r h) (λ o x. tt)
-    met_out (Field_of f r) h = has_then Any Any (row_met env r) _ (met_out r h) (λ o x. tt)
-    met_out (Unzipped_row e r) h = has_then Any Any (extent_worth env e) _ (extent_out e h.0) (λ z x. has_then Any Any (and_then (row_met env r) met_or_unmet) _ (or_unmet_out (row_met env r) (met_out r h.1)) (λ s y. tt))
-    met_out (First_of rs) h = first_out rs h
+    pub row_out : (r : Row) → All_in_row P r → HasOut Any (row_shape env r)
+    row_out Unknown_row h = tt
+    row_out (Scalar_row t) h = tt
+    row_out (Tuple_row rs) h = has_then Any Any (row_shapes env rs) _ (shapes_out rs h) (λ hs x. tt)
+    row_out (Record_row fs) h = has_then Any Any (named_shapes env fs) _ (named_out fs h) (λ hs x. tt)
+    row_out (Array_row e r) h = has_then Any Any (extent_worth env e) _ (extent_out e h.0) (λ z x. has_then Any Any (row_shape env r) _ (row_out r h.1) (λ s y. tt))
+    row_out (Shape_of u) h = has_then Any Any (value_of env u) _ (stands u h) (λ d x. tt)
+    row_out (Rows_of r) h = has_then Any Any (row_shape env r) _ (row_out r h) (λ s x. tt)
+    row_out (Part_of k r) h = has_then Any Any (row_shape env r) _ (row_out r h) (λ s x. tt)
+    row_out (Field_of f r) h = has_then Any Any (row_shape env r) _ (row_out r h) (λ s x. tt)
+    row_out (Unzipped_row e r) h = has_then Any Any (extent_worth env e) _ (extent_out e h.0) (λ z x. has_then Any Any (row_shape env r) _ (row_out r h.1) (λ s y. tt))
 
     shapes_out : (rs : Rows) → All_in_rows P rs → HasOut Any (row_shapes env rs)
     shapes_out no_row h = tt
-    shapes_out (row_and r rs) h = has_then Any Any (and_then (row_met env r) met_or_unmet) _ (or_unmet_out (row_met env r) (met_out r h.0)) (λ s x. has_then Any Any (row_shapes env rs) _ (shapes_out rs h.1) (λ hs y. tt))
+    shapes_out (row_and r rs) h = has_then Any Any (row_shape env r) _ (row_out r h.0) (λ s x. has_then Any Any (row_shapes env rs) _ (shapes_out rs h.1) (λ hs y. tt))
 
     named_out : (fs : Named_rows) → All_in_fields P fs → HasOut Any (named_shapes env fs)
     named_out no_named_row h = tt
-    named_out (named_row_and f r fs) h = has_then Any Any (and_then (row_met env r) met_or_unmet) _ (or_unmet_out (row_met env r) (met_out r h.0)) (λ s x. has_then Any Any (named_shapes env fs) _ (named_out fs h.1) (λ hs y. tt))
-
-    first_out : (rs : Rows) → All_in_rows P rs → HasOut Any (first_met env rs)
-    first_out no_row h = tt
-    first_out (row_and r rs) h = has_then Any Any (row_met env r) _ (met_out r h.0) (λ o x. later_out o (first_met env rs) (first_out rs h.1))
+    named_out (named_row_and f r fs) h = has_then Any Any (row_shape env r) _ (row_out r h.0) (λ s x. has_then Any Any (named_shapes env fs) _ (named_out fs h.1) (λ hs y. tt))
 
     pub extent_out : (e : Extent) → All_in_extent P e → HasOut Any (extent_worth env e)
-    extent_out no_reading h = tt
-    extent_out (reading_or g gs) h = has_then Any Any (reading_worth env g) _ (reading_out g h.0) (λ o x. later_out o (extent_worth env gs) (extent_out gs h.1))
-
-    reading_out : (g : Reading) → All_in_reading P g → HasOut Any (reading_worth env g)
-    reading_out (Exactly n) h = tt
-    reading_out (Worth_of u) h = has_then Any Any (value_of env u) _ (stands u h) (λ d x. tt)
-    reading_out (Length_of r) h = has_then Any Any (row_met env r) _ (met_out r h) (λ o x. tt)
-
-  pub row_out : (r : Row) → All_in_row P r → HasOut Any (row_shape env r)
-  row_out r h = or_unmet_out (row_met env r) (met_out r h)
+    extent_out Nowhere h = tt
+    extent_out (Exactly n) h = tt
+    extent_out (Worth_of u) h = has_then Any Any (value_of env u) _ (stands u h) (λ d x. tt)
+    extent_out (Length_of r) h = has_then Any Any (row_shape env r) _ (row_out r h) (λ s x. tt)
 
   mutual
     pub test_out : (t : Size_test) (h : Shape) → All_in_test P t → HasOut Any (passes env t h)

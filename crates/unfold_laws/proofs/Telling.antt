@@ -1,96 +1,93 @@
 -- Where all atoms of what was entered under names have a property, so have those of the rows, extents and tests that are found there.
-use Rattle.std.proofs.Common.{Bool, true, false, cond, ◌++◌, ℕ, zero, suc, ◌-◌, List, [], ◌∷◌, map, Option, Some, None, nat_eq, ◌&&◌}
+use Rattle.std.proofs.Common.{Bool, true, false, cond, ℕ, zero, suc, ◌-◌, List, [], ◌∷◌, map, Option, Some, None, nat_eq, ◌&&◌}
+use Rattle.std.specs.Str.{bytes_eq}
 use Rattle.fut_ast.specs.Sorts.{Text}
 use Rattle.fut_flat.specs.declared.prim.Primitive.{Primitive}
 use Rattle.fut_flat.specs.declared.prim.Primitive.TheVariants as prim
 use Rattle.fut_flat.specs.Numbers.{all_pattern_numbers}
 use Rattle.fut_types.specs.declared.Head.{Head}
 use Rattle.fut_types.specs.declared.Head.TheVariants as head
-use Rattle.sized_types.specs.Sizes.{Free, Const, Name, Dim, At, Bound, Variable, is_variable, Size, Hole, Open, Level, Built, Fun, Sizes, no_size, size_and, is_dim}
+use Rattle.sized_types.specs.Sizes.{Free, Const, Name, Dim, At, Bound, Variable, Size, Hole, Open, Level, Built, Fun, Sizes, no_size, size_and}
 use Rattle.sized_types.specs.Standing.{is_known, gives_chosen}
-use Rattle.fut_meaning.specs.Found.{Sizing}
+use Rattle.fut_meaning.specs.Found.{Sizing, is_number}
+use Rattle.fut_meaning.specs.Places.{Path, Whole, In_rows, In_part, In_field, size_place, type_place, on_place}
 use Rattle.fut_meaning.specs.Telling.{nodes_from}
 use Rattle.fut_meaning.specs.Values.{is_before}
 use Rattle.fut_meaning.proofs.Safe.{Every}
 use Rattle.fut_blocks.specs.declared.block.Atom.{Atom}
-use Rattle.fut_blocks.specs.Rows.{Row, Unknown_row, Shape_of, Rows_of, Part_of, Field_of, Size_tests, Named_tests, Rows, no_row, row_and, Named_rows, no_named_row, named_row_and, Extent, Reading, Length_of, rows, extent}
+use Rattle.fut_blocks.specs.Rows.{Row, Unknown_row, Tuple_row, Record_row, Array_row, Shape_of, Size_tests, Named_tests, Rows, no_row, row_and, Named_rows, no_named_row, named_row_and, Extent, Nowhere, Exactly, Worth_of, Length_of, rows}
 use Rattle.fut_types.specs.Types.{Tys, none, more}
-use Rattle.type_soundness.proofs.Making.{every_more}
-use Rattle.unfold.specs.Knowns.{Known, Scalar_known, Tuple_known, Record_known, Function_known, Primitive_known, Knowns, no_known, known_and, Known_fields, no_known_field, known_field_and, Scope, no_name, branch, entry}
-use Rattle.unfold.specs.Telling.{or_unknown, in_head, sought, all_sought, named_sought, length_if, row_if, size_in, type_in, with_named, named_rows, headed, told_row, told_rows, pushed, typed_by, result_row, Found, nothing_found, worth, number, row_found, with_data, chosen_none, chosen_row, if_told, with_results, named_worth, with_worth, Argument, Telling, Of_row, Of_rows, by_function, rows_in, argument_row, same_row, mapped_rows, first_row, last_row, element_row, zipped_row, unzipped_row, replicated, counted, tabulated, indices_row, unflattened, transposed, primitive_tells, known_worth, known_row, known_rows, field_rows, is_function, data_told, to_come, closure_tells, found, tells, function_tells, rows_for, head_test, size_test, size_tests, named_tests, literal_row, function_row, test_at, size_used, enter}
-use Rattle.unfold_laws.specs.Entered.{All_in_known, All_in_knowns, All_in_known_fields, All_entered}
+use Rattle.unfold.specs.Knowns.{Known, Scalar_known, Tuple_known, Record_known, Function_known, Primitive_known, Knowns, no_known, known_and, Known_fields, no_known_field, known_field_and, Scope, entered_in, Entered, no_entry, entry}
+use Rattle.unfold.specs.Telling.{part_at, part_in, field_at, field_in, at_row, as_many, length_of, with_named, named_rows, headed, told_row, told_rows, pushed, typed_by, result_row, Found, nothing_found, number, with_data, chosen_none, chosen_row, if_told, results_row, with_results, named_worth, with_worth, Argument, Telling, Of_row, Of_rows, by_function, rows_in, argument_row, same_row, mapped_rows, first_row, last_row, element_row, zipped_row, unzipped_row, replicated, counted, tabulated, indices_row, unflattened, transposed, primitive_tells, known_worth, known_row, known_rows, field_rows, is_function, data_told, to_come, closure_tells, found, tells, function_tells, rows_for, head_test, size_test, size_tests, named_tests, literal_row, function_row, test_at, size_used, enter}
+use Rattle.unfold_laws.specs.Entered.{All_in_known, All_in_knowns, All_in_known_fields, All_entered, All_entries}
+use Rattle.unfold_laws.proofs.Entered.{entries_in}
 use Rattle.unfold_laws.specs.Typed.{Types, Are, Stands}
-use Rattle.unfold_laws.specs.Standing.{All_in_row, All_in_rows, All_in_fields, All_in_extent, All_in_reading, All_in_test, All_in_tests, All_in_field_tests}
+use Rattle.unfold_laws.specs.Standing.{All_in_row, All_in_rows, All_in_fields, All_in_extent, All_in_test, All_in_tests, All_in_field_tests}
 
 -- of what there may be
 abbrev pub On_some : {A : Type 0} → (A → Type 0) → Option A → Type 0
 On_some Q None = Unit {0}
 On_some Q (Some a) = Q a
 
-one_if : {A : Type 0} (Q : A → Type 0) (b : Bool) (x : A) → Q x → Every Q (cond b (x ∷ []) [])
-one_if Q true x h = (h, tt)
-one_if Q false x h = tt
-
 all_if : {A : Type 0} (Q : A → Type 0) (b : Bool) (x y : A) → Q x → Q y → Q (cond b x y)
 all_if Q true x y h k = h
 all_if Q false x y h k = k
 
-every_if : {A : Type 0} (Q : A → Type 0) (b : Bool) (xs : List A) → Every Q xs → Every Q (cond b xs [])
-every_if Q true xs h = h
-every_if Q false xs h = tt
-
-in_head_all : {A : Type 0} (Q : A → Type 0) (h : Head) (parts : List A) (named : ℕ → List A) → Every Q parts → ((n : ℕ) → Every Q (named n)) → Every Q (in_head h parts named)
-in_head_all Q head.Tuple parts named p n = p
-in_head_all Q (head.Record k) parts named p n = n k
-in_head_all Q h parts named p n = tt
+-- at a place where there is one, and else what there is
+placed_all : {A : Type 0} (Q : A → Type 0) (o : Option Path) {there : Path → A} {a : A} → ((p : Path) → Q (there p)) → Q a → Q (on_place o there a)
+placed_all Q (Some p) h k = h p
+placed_all Q None h k = k
 
 module _ (P : Atom → Type 0) where
   abbrev Row_all : Row → Type 0
   Row_all r = All_in_row P r
 
-  abbrev Reading_all : Reading → Type 0
-  Reading_all g = All_in_reading P g
+  abbrev Extent_all : Extent → Type 0
+  Extent_all e = All_in_extent P e
 
-  -- ---- lists as rows and extents
   rows_all : (rs : List Row) → Every Row_all rs → All_in_rows P (rows rs)
   rows_all [] h = tt
   rows_all (r ∷ rs) h = (h.0, rows_all rs h.1)
 
-  extent_all : (gs : List Reading) → Every Reading_all gs → All_in_extent P (extent gs)
-  extent_all [] h = tt
-  extent_all (g ∷ gs) h = (h.0, extent_all gs h.1)
+  -- ---- what stands at a place
+  rows_in_all : (r : Row) → Row_all r → Row_all (rows_in r)
+  rows_in_all (Array_row e r) h = h.1
+  rows_in_all r h = h
 
-  or_unknown_all : (rs : List Row) → Every Row_all rs → Row_all (or_unknown rs)
-  or_unknown_all rs h = rows_all (rs ++ Unknown_row ∷ []) (every_more Row_all rs (Unknown_row ∷ []) h (tt, tt))
+  part_at_all : (k : ℕ) (rs : Rows) → All_in_rows P rs → Row_all (part_at k rs)
+  part_at_all k no_row h = tt
+  part_at_all zero (row_and r rs) h = h.0
+  part_at_all (suc k) (row_and r rs) h = part_at_all k rs h.1
 
-  -- ---- what is sought
-  module _ {A : Type 0} (Q : A → Type 0) (fields : ℕ → List Text) (at_level : Dim → Row → List A) (at_hole : Variable → Row → List A) (level : (d : Dim) (r : Row) → Row_all r → Every Q (at_level d r)) (hole : (v : Variable) (r : Row) → Row_all r → Every Q (at_hole v r)) where
-    mutual
-      unfolding sought all_sought named_sought
+  part_in_all : (k : ℕ) (r : Row) → Row_all r → Row_all (part_in k r)
+  part_in_all k (Tuple_row rs) h = part_at_all k rs h
+  part_in_all k r h = h
 
-      sought_of : (t : Size) (r : Row) → Row_all r → Every Q (sought fields at_level at_hole t r)
-      sought_of (Hole v) r h = hole v r h
-      sought_of (Open n v u) r h = tt
-      sought_of (Level d t) r h = every_more Q (at_level d r) _ (level d r h) (sought_of t (Rows_of r) h)
-      sought_of (Built k ts) r h = in_head_all Q k _ _ (parts_of 0 ts r h) (λ n. fields_of (fields n) ts r h)
-      sought_of (Fun k p q) r h = tt
+  field_at_all : (f : Text) (fs : Named_rows) → All_in_fields P fs → Row_all (field_at f fs)
+  field_at_all f no_named_row h = tt
+  field_at_all f (named_row_and g r fs) h = all_if Row_all (bytes_eq g f) r (field_at f fs) h.0 (field_at_all f fs h.1)
 
-      parts_of : (k : ℕ) (ts : Sizes) (r : Row) → Row_all r → Every Q (all_sought fields at_level at_hole k ts r)
-      parts_of k no_size r h = tt
-      parts_of k (size_and t ts) r h = every_more Q _ _ (sought_of t (Part_of k r) h) (parts_of (suc k) ts r h)
+  field_in_all : (f : Text) (r : Row) → Row_all r → Row_all (field_in f r)
+  field_in_all f (Record_row fs) h = field_at_all f fs h
+  field_in_all f r h = h
 
-      fields_of : (fs : List Text) (ts : Sizes) (r : Row) → Row_all r → Every Q (named_sought fields at_level at_hole fs ts r)
-      fields_of fs no_size r h = tt
-      fields_of [] (size_and t ts) r h = tt
-      fields_of (f ∷ fs) (size_and t ts) r h = every_more Q _ _ (sought_of t (Field_of f r) h) (fields_of fs ts r h)
+  at_row_all : (p : Path) (r : Row) → Row_all r → Row_all (at_row p r)
+  at_row_all Whole r h = h
+  at_row_all (In_rows p) r h = at_row_all p (rows_in r) (rows_in_all r h)
+  at_row_all (In_part k p) r h = at_row_all p (part_in k r) (part_in_all k r h)
+  at_row_all (In_field f p) r h = at_row_all p (field_in f r) (field_in_all f r h)
+
+  as_many_all : (e : Extent) → Extent_all e → Extent_all (as_many e)
+  as_many_all Nowhere h = tt
+  as_many_all (Exactly n) h = tt
+  as_many_all (Worth_of u) h = (h, tt)
+  as_many_all (Length_of r) h = h
+
+  length_all : (r : Row) → Row_all r → Extent_all (length_of r)
+  length_all (Array_row e r) h = as_many_all e h.0
+  length_all r h = h
 
   module _ (fields : ℕ → List Text) where
-    size_in_all : (x : Dim) (t : Size) (r : Row) → Row_all r → Every Reading_all (size_in fields x t r)
-    size_in_all x t r h = sought_of Reading_all fields (length_if x) (λ v r. []) (λ d r k. one_if Reading_all (is_dim d x) (Length_of r) k) (λ v r k. tt) t r h
-
-    type_in_all : (x : Variable) (t : Size) (r : Row) → Row_all r → Every Row_all (type_in fields x t r)
-    type_in_all x t r h = sought_of Row_all fields (λ d r. []) (row_if x) (λ d r k. tt) (λ v r k. one_if Row_all (is_variable v x) r k) t r h
-
     -- ---- rows of sized types
     with_named_all : (f : Text) (r : Row) (fs : Named_rows) → Row_all r → All_in_fields P fs → All_in_fields P (with_named f r fs)
     with_named_all f r no_named_row h k = (h, tt)
@@ -124,11 +121,11 @@ module _ (P : Atom → Type 0) where
 
     pushed_all : (p : Size) (r : Row) (of_dims : Dim → Extent) → Row_all r → ((d : Dim) → All_in_extent P (of_dims d)) → (d : Dim) → All_in_extent P (pushed fields p r of_dims d)
     pushed_all p r of_dims h n (At d) = n (At d)
-    pushed_all p r of_dims h n (Bound zero i) = extent_all (size_in fields (Bound 0 i) p r) (size_in_all (Bound 0 i) p r h)
+    pushed_all p r of_dims h n (Bound zero i) = placed_all Extent_all (size_place fields (Bound 0 i) p) {there = λ q. length_of (at_row q r)} {a = Nowhere} (λ q. length_all (at_row q r) (at_row_all q r h)) tt
     pushed_all p r of_dims h n (Bound (suc j) i) = n (Bound j i)
 
     typed_by_all : (p : Size) (r : Row) (type : Variable → Row) → Row_all r → ((v : Variable) → Row_all (type v)) → (v : Variable) → Row_all (typed_by fields p r type v)
-    typed_by_all p r type h n v = rows_all (type_in fields v p r ++ type v ∷ []) (every_more Row_all (type_in fields v p r) (type v ∷ []) (type_in_all v p r h) (n v, tt))
+    typed_by_all p r type h n v = placed_all Row_all (type_place fields v p) {there = λ q. at_row q r} {a = type v} (λ q. at_row_all q r h) (n v)
 
     result_all : (t : Size) (rs : List Row) (of_dims : Dim → Extent) (type : Variable → Row) → ((d : Dim) → All_in_extent P (of_dims d)) → ((v : Variable) → Row_all (type v)) → Every Row_all rs → Row_all (result_row fields of_dims type t rs)
     unfolding result_row
@@ -145,70 +142,67 @@ module _ (P : Atom → Type 0) where
 
   -- ---- what is found
   record Found_all (W : Found) : Type 0 where
-    sizes : (d : Free) → Every Reading_all (W.size d)
-    types : (v : Variable) → Every Row_all (W.type v)
+    sizes : (d : Free) → Extent_all (W.size d)
+    types : (v : Variable) → Row_all (W.type v)
 
   nothing_all : Found_all nothing_found
   nothing_all = record { sizes = λ d. tt; types = λ v. tt }
 
-  worth_all : (W : Found) → Found_all W → (d : Dim) → Every Reading_all (worth W d)
-  worth_all W f (At (Const c)) = (tt, tt)
-  worth_all W f (At d) = f.sizes d
-  worth_all W f (Bound j i) = tt
-
-  number_all : (W : Found) → Found_all W → (d : Dim) → All_in_extent P (number W d)
-  number_all W f d = extent_all (worth W d) (worth_all W f d)
-
-  row_found_all : (W : Found) → Found_all W → (v : Variable) → Row_all (row_found W v)
-  row_found_all W f v = or_unknown_all (W.type v) (f.types v)
+  number_all : (W : Found) → Found_all W → (d : Dim) → Extent_all (number W d)
+  number_all W f (At (Const c)) = tt
+  number_all W f (At d) = f.sizes d
+  number_all W f (Bound j i) = tt
 
   module _ (fields : ℕ → List Text) where
     with_data_all : (t : Size) (r : Row) (W : Found) → Row_all r → Found_all W → Found_all (with_data fields t r W)
     with_data_all t r W h f = record {
-      sizes = λ d. every_more Reading_all (size_in fields (At d) t r) (W.size d) (size_in_all fields (At d) t r h) (f.sizes d);
-      types = λ v. every_more Row_all (type_in fields v t r) (W.type v) (type_in_all fields v t r h) (f.types v);
+      sizes = λ d. placed_all Extent_all (size_place fields (At d) t) {there = λ p. length_of (at_row p r)} {a = W.size d} (λ p. length_all (at_row p r) (at_row_all p r h)) (f.sizes d);
+      types = λ v. placed_all Row_all (type_place fields v t) {there = λ p. at_row p r} {a = W.type v} (λ p. at_row_all p r h) (f.types v);
     }
 
     none_all : (d : Dim) → All_in_extent P (chosen_none d)
-    none_all (At (Const c)) = (tt, tt)
+    none_all (At (Const c)) = tt
     none_all d = tt
 
     chosen_all : (p : Size) → Row_all (chosen_row fields p)
     chosen_all p = told_all fields chosen_none (λ v. Unknown_row) none_all (λ v. tt) p
 
-    results_all : (t : Size) (tell : List Row → Row) (W : Found) → ((rs : List Row) → Every Row_all rs → Row_all (tell rs)) → Found_all W → Found_all (with_results fields t tell W)
-    unfolding with_results
-    results_all (Fun k p r) tell W told f = if_told_all (is_known p && gives_chosen k r) (with_data fields r (tell (chosen_row fields p ∷ [])) W) W (with_data_all r (tell (chosen_row fields p ∷ [])) W (told (chosen_row fields p ∷ []) (chosen_all p, tt)) f) f
+    results_row_all : (t : Size) (tell : List Row → Row) → ((rs : List Row) → Every Row_all rs → Row_all (tell rs)) → Row_all (results_row fields t tell)
+    results_row_all (Fun k p r) tell told = all_if Row_all (is_known p && gives_chosen k r) (tell (chosen_row fields p ∷ [])) Unknown_row (told (chosen_row fields p ∷ []) (chosen_all p, tt)) tt
+    results_row_all (Hole v) tell told = tt
+    results_row_all (Open n v u) tell told = tt
+    results_row_all (Level d t) tell told = tt
+    results_row_all (Built k ts) tell told = tt
+
+    results_all : (t : Size) (r : Row) (W : Found) → Row_all r → Found_all W → Found_all (with_results fields t r W)
+    results_all (Fun k p q) r W h f = if_told_all (is_known p && gives_chosen k q) (with_data fields q r W) W (with_data_all q r W h f) f
       where
         if_told_all : (b : Bool) (V W : Found) → Found_all V → Found_all W → Found_all (if_told b V W)
         if_told_all true V W f g = f
         if_told_all false V W f g = g
-    results_all (Hole v) tell W told f = f
-    results_all (Open n v u) tell W told f = f
-    results_all (Level d t) tell W told f = f
-    results_all (Built k ts) tell W told f = f
+    results_all (Hole v) r W h f = f
+    results_all (Open n v u) r W h f = f
+    results_all (Level d t) r W h f = f
+    results_all (Built k ts) r W h f = f
 
-  named_worth_all : (home : ℕ → ℕ) (q : ℕ) (gs : List Reading) → Every Reading_all gs → (d : Free) → Every Reading_all (named_worth home q gs d)
-  named_worth_all home q gs h (Name b) = every_if Reading_all (nat_eq (home b) q) gs h
-  named_worth_all home q gs h d = tt
+  named_worth_all : (home : ℕ → ℕ) (q : ℕ) (t : Size) (e : Extent) → Extent_all e → (d : Free) (o : Extent) → Extent_all o → Extent_all (named_worth home q t e d o)
+  named_worth_all home q t e h (Name b) o k = all_if Extent_all (nat_eq (home b) q && is_number t) e o h k
+  named_worth_all home q t e h d o k = k
 
-  with_worth_all : (home : ℕ → ℕ) (q : ℕ) (gs : List Reading) (W : Found) → Every Reading_all gs → Found_all W → Found_all (with_worth home q gs W)
-  with_worth_all home q gs W h f = record { sizes = λ d. every_more Reading_all (named_worth home q gs d) (W.size d) (named_worth_all home q gs h d) (f.sizes d); types = f.types }
+  with_worth_all : (home : ℕ → ℕ) (q : ℕ) (t : Size) (e : Extent) (W : Found) → Extent_all e → Found_all W → Found_all (with_worth home q t e W)
+  with_worth_all home q t e W h f = record { sizes = λ d. named_worth_all home q t e h d (W.size d) (f.sizes d); types = f.types }
 
   -- ---- primitives
   abbrev Argument_all : Argument → Type 0
-  Argument_all a = Row_all a.0 × Every Reading_all a.1
+  Argument_all a = Row_all a.0 × Extent_all a.1
 
   abbrev Telling_all : Telling → Type 0
   Telling_all (Of_row r) = Row_all r
-  Telling_all (Of_rows e rs) = All_in_extent P e × Every Row_all rs
+  Telling_all (Of_rows e rs) = Extent_all e × Every Row_all rs
 
   by_function_all : (f : List Row → Row) (t : Telling) → ((rs : List Row) → Every Row_all rs → Row_all (f rs)) → Telling_all t → Row_all (by_function f t)
   by_function_all f (Of_row r) told h = h
   by_function_all f (Of_rows e rs) told h = (h.0, told rs h.1)
-
-  rows_in_all : (r : Row) → Row_all r → Row_all (rows_in r)
-  rows_in_all r h = (h, (tt, tt))
 
   arguments_all : (bs : List Argument) → Every Argument_all bs → Every Row_all (map argument_row bs)
   arguments_all [] h = tt
@@ -230,7 +224,7 @@ module _ (P : Atom → Type 0) where
 
   mapped_all : (bs : List Argument) → Every Argument_all bs → Telling_all (mapped_rows bs)
   mapped_all [] h = tt
-  mapped_all (a ∷ bs) h = ((h.0.0, tt), arguments_all (a ∷ bs) h)
+  mapped_all (a ∷ bs) h = (length_all a.0 h.0.0, arguments_all (a ∷ bs) h)
 
   element_all : (bs : List Argument) → Every Argument_all bs → Telling_all (element_row bs)
   element_all [] h = tt
@@ -239,44 +233,44 @@ module _ (P : Atom → Type 0) where
 
   zipped_all : (bs : List Argument) → Every Argument_all bs → Telling_all (zipped_row bs)
   zipped_all [] h = tt
-  zipped_all (a ∷ bs) h = ((h.0.0, tt), rows_all (map argument_row (a ∷ bs)) (arguments_all (a ∷ bs) h))
+  zipped_all (a ∷ bs) h = (length_all a.0 h.0.0, rows_all (map argument_row (a ∷ bs)) (arguments_all (a ∷ bs) h))
 
   unzipped_all : (bs : List Argument) → Every Argument_all bs → Telling_all (unzipped_row bs)
   unzipped_all [] h = tt
-  unzipped_all (a ∷ []) h = ((h.0.0, tt), rows_in_all a.0 h.0.0)
+  unzipped_all (a ∷ []) h = (length_all a.0 h.0.0, rows_in_all a.0 h.0.0)
   unzipped_all (a ∷ b ∷ bs) h = tt
 
   replicated_all : (bs : List Argument) → Every Argument_all bs → Telling_all (replicated bs)
   replicated_all [] h = tt
   replicated_all (n ∷ []) h = tt
-  replicated_all (n ∷ a ∷ []) h = (extent_all n.1 h.0.1, h.1.0.0)
+  replicated_all (n ∷ a ∷ []) h = (h.0.1, h.1.0.0)
   replicated_all (n ∷ a ∷ b ∷ bs) h = tt
 
   counted_all : (bs : List Argument) → Every Argument_all bs → Telling_all (counted bs)
   counted_all [] h = tt
-  counted_all (n ∷ []) h = (extent_all n.1 h.0.1, tt)
+  counted_all (n ∷ []) h = (h.0.1, tt)
   counted_all (n ∷ b ∷ bs) h = tt
 
   tabulated_all : (bs : List Argument) → Every Argument_all bs → Telling_all (tabulated bs)
   tabulated_all [] h = tt
-  tabulated_all (n ∷ []) h = (extent_all n.1 h.0.1, (tt, tt))
+  tabulated_all (n ∷ []) h = (h.0.1, (tt, tt))
   tabulated_all (n ∷ b ∷ bs) h = tt
 
   indices_all : (bs : List Argument) → Every Argument_all bs → Telling_all (indices_row bs)
   indices_all [] h = tt
-  indices_all (a ∷ []) h = ((h.0.0, tt), tt)
+  indices_all (a ∷ []) h = (length_all a.0 h.0.0, tt)
   indices_all (a ∷ b ∷ bs) h = tt
 
   unflattened_all : (bs : List Argument) → Every Argument_all bs → Telling_all (unflattened bs)
   unflattened_all [] h = tt
   unflattened_all (n ∷ []) h = tt
   unflattened_all (n ∷ m ∷ []) h = tt
-  unflattened_all (n ∷ m ∷ a ∷ []) h = (extent_all n.1 h.0.1, (extent_all m.1 h.1.0.1, rows_in_all a.0 h.1.1.0.0))
+  unflattened_all (n ∷ m ∷ a ∷ []) h = (h.0.1, (h.1.0.1, rows_in_all a.0 h.1.1.0.0))
   unflattened_all (n ∷ m ∷ a ∷ b ∷ bs) h = tt
 
   transposed_all : (bs : List Argument) → Every Argument_all bs → Telling_all (transposed bs)
   transposed_all [] h = tt
-  transposed_all (a ∷ []) h = ((rows_in_all a.0 h.0.0, tt), ((h.0.0, tt), rows_in_all (rows_in a.0) (rows_in_all a.0 h.0.0)))
+  transposed_all (a ∷ []) h = (length_all (rows_in a.0) (rows_in_all a.0 h.0.0), (length_all a.0 h.0.0, rows_in_all (rows_in a.0) (rows_in_all a.0 h.0.0)))
   transposed_all (a ∷ b ∷ bs) h = tt
 
   primitive_all : (p : Primitive) (bs : List Argument) → Every Argument_all bs → Telling_all (primitive_tells p bs)
@@ -309,8 +303,8 @@ module _ (P : Atom → Type 0) where
   primitive_all p bs h = tt
 
   -- ---- what is known of values
-  worth_known : (s : Known) → All_in_known P s → Every Reading_all (known_worth s)
-  worth_known (Scalar_known u) h = (h, tt)
+  worth_known : (s : Known) → All_in_known P s → Extent_all (known_worth s)
+  worth_known (Scalar_known u) h = h
   worth_known (Tuple_known ss) h = tt
   worth_known (Record_known fs) h = tt
   worth_known (Function_known ps e lo sc) h = tt
@@ -346,26 +340,26 @@ module _ (P : Atom → Type 0) where
   module _ (Z : Sizing) where
     closure_all : (qs : List ℕ) (lo : ℕ) (rs : List Row) (W : Found) → Found_all W → Every Row_all rs → Row_all (closure_tells Z qs lo rs W)
     unfolding closure_tells
-    closure_all [] lo rs W f h = result_all Z.fields (Z.size_at lo) rs (number W) (row_found W) (number_all W f) (row_found_all W f) h
+    closure_all [] lo rs W f h = result_all Z.fields (Z.size_at lo) rs (number W) W.type (number_all W f) f.types h
     closure_all (q ∷ qs) lo [] W f h = tt
     closure_all (q ∷ qs) lo (r ∷ rs) W f h = closure_all qs lo rs (with_data Z.fields (Z.size_at q) r W) (with_data_all Z.fields (Z.size_at q) r W h.0 f) h.1
 
-    mutual
-      unfolding found tells function_tells
+    found_all : (es : Entered) → All_entries P es → Found_all (found Z es)
+    unfolding found
+    found_all no_entry h = nothing_all
+    found_all (entry q s r es) h =
+        let W : Found = with_results Z.fields (Z.size_at q) r (found Z es) in
+        with_worth_all Z.home q (Z.size_at q) (known_worth s) (with_data Z.fields (Z.size_at q) (known_row s) W) (worth_known s h.0)
+        (with_data_all Z.fields (Z.size_at q) (known_row s) W (row_known s h.0) (results_all Z.fields (Z.size_at q) r (found Z es) h.1 (found_all es h.2)))
 
-      found_all : (sc : Scope) → All_entered P sc → Found_all (found Z sc)
-      found_all no_name h = nothing_all
-      found_all (branch b s even odd) h = nothing_all
-      found_all (entry q s sc) h =
-          let W : Found = with_results Z.fields (Z.size_at q) (tells Z s) (found Z sc) in
-          with_worth_all Z.home q (known_worth s) (with_data Z.fields (Z.size_at q) (known_row s) W) (worth_known s h.0)
-          (with_data_all Z.fields (Z.size_at q) (known_row s) W (row_known s h.0) (results_all Z.fields (Z.size_at q) (tells Z s) (found Z sc) (λ rs k. tells_all s rs h.0 k) (found_all sc h.1)))
+    mutual
+      unfolding tells function_tells
 
       tells_all : (s : Known) (rs : List Row) → All_in_known P s → Every Row_all rs → Row_all (tells Z s rs)
       tells_all (Scalar_known u) rs h k = tt
       tells_all (Tuple_known ss) rs h k = tt
       tells_all (Record_known fs) rs h k = tt
-      tells_all (Function_known ps e lo sc) rs h k = closure_all (nodes_from ps (lo - all_pattern_numbers ps)) lo rs (found Z sc) (found_all sc h) k
+      tells_all (Function_known ps e lo sc) rs h k = closure_all (nodes_from ps (lo - all_pattern_numbers ps)) lo rs (found Z (entered_in sc)) (found_all (entered_in sc) (entries_in P sc h)) k
       tells_all (Primitive_known p at ss) rs h k = by_function_all (function_tells Z ss) (primitive_tells p (data_told ss (to_come rs))) (λ qs l. function_all ss qs h l) (primitive_all p (data_told ss (to_come rs)) (data_all ss (to_come rs) h (to_come_all rs k)))
 
       function_all : (ss : Knowns) (rs : List Row) → All_in_knowns P ss → Every Row_all rs → Row_all (function_tells Z ss rs)
@@ -409,7 +403,10 @@ module _ (P : Atom → Type 0) where
   -- ---- where there is a sizing
   pub literal_row_all : (z : Option Sizing) (sc : Scope) (lo : ℕ) → All_entered P sc → Row_all (literal_row z sc lo)
   literal_row_all None sc lo h = tt
-  literal_row_all (Some Z) sc lo h = let f = found_all Z sc h in told_all Z.fields (number (found Z sc)) (row_found (found Z sc)) (number_all (found Z sc) f) (row_found_all (found Z sc) f) (Z.size_at lo)
+  literal_row_all (Some Z) sc lo h =
+      let W : Found = found Z (entered_in sc) in
+      let f : Found_all W = found_all Z (entered_in sc) (entries_in P sc h) in
+      rows_in_all (told_row Z.fields (number W) W.type (Z.size_at lo)) (told_all Z.fields (number W) W.type (number_all W f) f.types (Z.size_at lo))
 
   pub function_row_all : (z : Option Sizing) (p : Primitive) (s : Known) (us : List Atom) → All_in_known P s → Every P us → Row_all (function_row z p s us)
   function_row_all None p s us h k = tt
@@ -417,15 +414,15 @@ module _ (P : Atom → Type 0) where
 
   pub test_at_all : (z : Option Sizing) (sc : Scope) (lo : ℕ) → All_entered P sc → On_some (All_in_test P) (test_at z sc lo)
   test_at_all None sc lo h = tt
-  test_at_all (Some Z) sc lo h = test_all Z.fields (found Z sc) (found_all Z sc h) (Z.size_at lo)
+  test_at_all (Some Z) sc lo h = test_all Z.fields (found Z (entered_in sc)) (found_all Z (entered_in sc) (entries_in P sc h)) (Z.size_at lo)
 
   pub size_used_all : (z : Option Sizing) (sc : Scope) (k : ℕ) → All_entered P sc → On_some (All_in_extent P) (size_used z sc k)
   size_used_all None sc k h = tt
-  size_used_all (Some Z) sc k h = all_if (On_some (All_in_extent P)) (Z.is_size k) (Some (number (found Z sc) (At (Name k)))) None (number_all (found Z sc) (found_all Z sc h) (At (Name k))) tt
+  size_used_all (Some Z) sc k h = all_if (On_some (All_in_extent P)) (Z.is_size k) (Some (number (found Z (entered_in sc)) (At (Name k)))) None (number_all (found Z (entered_in sc)) (found_all Z (entered_in sc) (entries_in P sc h)) (At (Name k))) tt
 
   pub enter_all : (z : Option Sizing) (q : ℕ) (s : Known) (sc : Scope) → All_in_known P s → All_entered P sc → All_entered P (enter z q s sc)
   enter_all None q s sc h k = k
-  enter_all (Some Z) q s sc h k = (h, k)
+  enter_all (Some Z) q s sc h k = (h, results_row_all Z.fields (Z.size_at q) (tells Z s) (λ rs l. tells_all Z s rs h l), entries_in P sc k)
 
 -- atoms of types stand for data
 pub are_stand : (G : Types) (us : List Atom) (ts : Tys) → Are G us ts → Every (Stands G) us

@@ -35,7 +35,7 @@ use Rattle.type_soundness.specs.Meant.{Literal, Literals_told}
 use Rattle.type_soundness.specs.Programs.{Definitions_told, None_has, One_each, Is_sized}
 use Rattle.type_soundness.proofs.Literals.{literal_kept}
 use Rattle.type_soundness.proofs.Programs.{or_left, or_right, both, sized_uses, definitions_only, tops_of, Reached}
-use Rattle.unfold.specs.Knowns.{Known, Knowns, no_known, known_and, no_name, Tops, listed, find, local_by, local}
+use Rattle.unfold.specs.Knowns.{Known, Knowns, no_known, known_and, nothing_seen, Tops, listed, find, local_by, local}
 use Rattle.unfold.specs.Programs.{Definitions_unfold, d_none, d_reached, d_other, Program_unfolds}
 use Rattle.unfold.specs.Shapes.{Shape, Scalar_shape, Shapes, Laid, laid_scalar, laid_tuple, All_laid, laid_none, laid_more}
 use Rattle.unfold.specs.Stuck.{Definitions_stuck, stuck_definition, stuck_next, stuck_other, Stuck_runs, stuck_run, stuck_on, Program_stuck, in_definitions, no_entry, in_entry, no_result}
@@ -62,7 +62,7 @@ module _ (N : Names) (are : AreNames N) (K : Kinds) (a : Sub) (T : Told) (entry 
   S = is_size_in T.sizes
 
   abbrev In_tops : World → (ℕ → Type 0) → Scope → Type 0
-  In_tops world P scope = Names_fit N T world P scope K a no_name
+  In_tops world P scope = Names_fit N T world P scope K a nothing_seen
 
   -- the definitions that are known are not among those that are left
   abbrev Left : Tops → List Definition → Type 0
@@ -76,12 +76,12 @@ module _ (N : Names) (are : AreNames N) (K : Kinds) (a : Sub) (T : Told) (entry 
     whole = definition_scheme N kind.Data (defined d) lo scope
 
     value_goes : (P : ℕ → Type 0) (world : World) (c other : Sub) → ((n : ℕ) → n < lo → other n ≡ a n) → ((m : ℕ) → Literal value (lo + 1) m → other m ≡ a m) → whole.typed c K other → Heads_sized S (parameters d.heads.now) → Sized S P value → Literals_told T.integer_at a value (lo + 1)
-        → lo + (1 + numbers value) < widest → In_tops world P scope → Goes N are T P K world no_name (1 + lo) value (other lo)
+        → lo + (1 + numbers value) < widest → In_tops world P scope → Goes N are T P K world nothing_seen (1 + lo) value (other lo)
     value_goes P world c other outside literals typed sizes meant lits small h =
-        goes_as N are T P K world no_name (1 + lo) value (other (lo + 1)) (other lo) (sym typed.1)
-        (subst (λ n. Goes N are T P K world no_name n value (other (lo + 1))) (let z : lo + 1 ≡ 1 + lo = omega arith in z)
-        (surely N are T P K value (lo + 1) _ other world no_name (local_parameters (λ n. n < lo + 1) (parameters d.heads.now) c scope (all_local_more (λ n. n < lo) (λ n. n < lo + 1) scope (λ n p. omega (arith, p)) all)) typed.0.1 meant (λ m l. literals m l ∙ lits m l) (omega (arith, small))
-        (names_types N T P K world (parameters d.heads.now) c scope other no_name sizes (names_move N T P K world scope lo a other no_name all outside h))))
+        goes_as N are T P K world nothing_seen (1 + lo) value (other (lo + 1)) (other lo) (sym typed.1)
+        (subst (λ n. Goes N are T P K world nothing_seen n value (other (lo + 1))) (let z : lo + 1 ≡ 1 + lo = omega arith in z)
+        (surely N are T P K value (lo + 1) _ other world nothing_seen (local_parameters (λ n. n < lo + 1) (parameters d.heads.now) c scope (all_local_more (λ n. n < lo) (λ n. n < lo + 1) scope (λ n p. omega (arith, p)) all)) typed.0.1 meant (λ m l. literals m l ∙ lits m l) (omega (arith, small))
+        (names_types N T P K world (parameters d.heads.now) c scope other nothing_seen sizes (names_move N T P K world scope lo a other nothing_seen all outside h))))
 
     literal_stays : (other : Sub) → ((n : ℕ) → lo ≤ n → n < lo + (1 + numbers value) → whole.free n ≡ false → other n ≡ a n) → (m : ℕ) → Literal value (lo + 1) m → other m ≡ a m
     literal_stays other kept m l = let r = literal_kept value (lo + 1) m l in let r0 : lo + 1 ≤ m = r.0.0 in let r1 : m < lo + 1 + numbers value = r.0.1 in
@@ -93,7 +93,7 @@ module _ (N : Names) (are : AreNames N) (K : Kinds) (a : Sub) (T : Told) (entry 
 
     -- what is known of its value is known at each type of its uses
     each_use : (P : ℕ → Type 0) (world : World) → Heads_sized S (parameters d.heads.now) → Sized S P value → Literals_told T.integer_at a value (lo + 1) → lo + (1 + numbers value) < widest → In_tops world P scope
-        → (n n' : ℕ) (bs : Bindings) (s : Known) → Unfolds T world.0 no_name (1 + lo) value n bs s n' → (t : Ty) → Reused kind.Data whole lo K a t → At (world.0, behind world.1 bs) t s
+        → (n n' : ℕ) (bs : Bindings) (s : Known) → Unfolds T world.0 nothing_seen (1 + lo) value n bs s n' → (t : Ty) → Reused kind.Data whole lo K a t → At (world.0, behind world.1 bs) t s
     each_use P world sizes meant lits small h n n' bs s v t u = let x = u.2.0 in
         subst (λ z. At (world.0, behind world.1 bs) z s) (sym u.2.1) ((value_goes P world u.0 x.other (λ n p. x.outside n (inl p)) (literal_stays x.other x.kept) x.typed sizes meant lits small h).1 n n' bs s v).1
 
@@ -111,7 +111,7 @@ module _ (N : Names) (are : AreNames N) (K : Kinds) (a : Sub) (T : Told) (entry 
       λ n q t. elim (ℕ_discrete n d.bind.0) as (λ x. (elim x as (λ x. Uses) [ yes e ↦ Reused kind.Data whole lo | no ne ↦ scope.uses n ]) K a t → Name_fits N T K ((d.bind.0, w) ∷ tops, C) t (look ((d.bind.0, w) ∷ tops) n) (S n)) [
         | yes e ↦ λ u. subst (Name_fits N T K ((d.bind.0, w) ∷ tops, C) t (look ((d.bind.0, w) ∷ tops) n)) (sym (ap S e ∙ other))
             (w, ap (λ b. cond b (Some w) (look tops n)) (eq-eqb d.bind.0 n (sym e)), fits_learn N T K t (tops, C) ((d.bind.0, w) ∷ tops, C) (new_world tops C w left) w (each t u))
-        | no ne ↦ λ u. (names_learn N T P K (tops, C) ((d.bind.0, w) ∷ tops, C) (new_world tops C w left) scope a no_name h).1 n (into n q) t u
+        | no ne ↦ λ u. (names_learn N T P K (tops, C) ((d.bind.0, w) ∷ tops, C) (new_world tops C w left) scope a nothing_seen h).1 n (into n q) t u
       ],
     )
 
@@ -163,10 +163,10 @@ module _ (N : Names) (are : AreNames N) (K : Kinds) (a : Sub) (T : Told) (entry 
   unfolding flat_tops
   reached_meant d ds lo scope tops C r e = sized_uses (Reached entry lo (d ∷ ds)) S (term_of d.value.now) [] r.meant.1 (λ k u. or_left _ _ (both _ _ e u))
 
-  first_goes : (d : Definition) (ds : List Definition) (lo : ℕ) (scope : Scope) (tops : Tops) (C : Context) → Ready (d ∷ ds) lo scope tops C → is_next d ds lo true → Goes N are T (Reached entry lo (d ∷ ds)) K (tops, C) no_name (1 + lo) (term_of d.value.now) (a lo)
+  first_goes : (d : Definition) (ds : List Definition) (lo : ℕ) (scope : Scope) (tops : Tops) (C : Context) → Ready (d ∷ ds) lo scope tops C → is_next d ds lo true → Goes N are T (Reached entry lo (d ∷ ds)) K (tops, C) nothing_seen (1 + lo) (term_of d.value.now) (a lo)
   first_goes d ds lo scope tops C r e = value_goes d ds lo scope r.all (Reached entry lo (d ∷ ds)) (tops, C) (own_types kind.Data (parameters d.heads.now)) a (λ n p. refl) (λ m l. refl) r.typed.0.0 r.meant.0.0 (reached_meant d ds lo scope tops C r e) r.told.0 (let z = r.small in omega (arith, z)) r.names
 
-  ready_known : (d : Definition) (ds : List Definition) (lo : ℕ) (scope : Scope) (tops : Tops) (C : Context) → Ready (d ∷ ds) lo scope tops C → is_next d ds lo true → (n n' : ℕ) (bs : Bindings) (s : Known) → Unfolds T tops no_name (1 + lo) (term_of d.value.now) n bs s n'
+  ready_known : (d : Definition) (ds : List Definition) (lo : ℕ) (scope : Scope) (tops : Tops) (C : Context) → Ready (d ∷ ds) lo scope tops C → is_next d ds lo true → (n n' : ℕ) (bs : Bindings) (s : Known) → Unfolds T tops nothing_seen (1 + lo) (term_of d.value.now) n bs s n'
       → Ready ds (after d lo) (behind_scope d lo scope) ((d.bind.0, s) ∷ tops) (behind C bs)
   unfolding flat_tops
   ready_known d ds lo scope tops C r e n n' bs s v = record {
@@ -179,7 +179,7 @@ module _ (N : Names) (are : AreNames N) (K : Kinds) (a : Sub) (T : Told) (entry 
     left = left_known d ds lo scope r.all tops s r.once.0 r.left;
     names = behind_known d ds lo scope r.all (Reached entry lo (d ∷ ds)) (Reached entry (after d lo) ds) tops (behind C bs) s (λ k q. or_right _ _ q) r.left r.meant.0.1
         (each_use d ds lo scope r.all (Reached entry lo (d ∷ ds)) (tops, C) r.meant.0.0 (reached_meant d ds lo scope tops C r e) r.told.0 (let z = r.small in omega (arith, z)) r.names n n' bs s v)
-        (names_learn N T (Reached entry lo (d ∷ ds)) K (tops, C) (tops, behind C bs) (learns_steps N K bs (tops, C)) scope a no_name r.names);
+        (names_learn N T (Reached entry lo (d ∷ ds)) K (tops, C) (tops, behind C bs) (learns_steps N K bs (tops, C)) scope a nothing_seen r.names);
   }
 
   ready_left : (d : Definition) (ds : List Definition) (lo : ℕ) (scope : Scope) (tops : Tops) (C : Context) → Ready (d ∷ ds) lo scope tops C → is_next d ds lo false → Ready ds (after d lo) (behind_scope d lo scope) tops C

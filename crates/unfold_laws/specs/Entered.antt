@@ -1,7 +1,8 @@
--- All atoms of what a known value tells of sizes: of data those that it is made of, of a function those of what was entered under
--- the names that it sees.
+-- All atoms of what a known value tells of sizes: of data those that it is made of, of a function those of what was entered where
+-- it stands.
 use Rattle.fut_blocks.specs.declared.block.Atom.{Atom}
-use Rattle.unfold.specs.Knowns.{Known, Scalar_known, Tuple_known, Record_known, Function_known, Primitive_known, Knowns, no_known, known_and, Known_fields, no_known_field, known_field_and, Scope, no_name, branch, entry}
+use Rattle.unfold.specs.Knowns.{Known, Scalar_known, Tuple_known, Record_known, Function_known, Primitive_known, Knowns, no_known, known_and, Known_fields, no_known_field, known_field_and, Scope, seeing, Entered, no_entry, entry}
+use Rattle.unfold_laws.specs.Standing.{All_in_row}
 
 module _ (P : Atom → Type 0) where
   abbrev mutual
@@ -20,7 +21,10 @@ module _ (P : Atom → Type 0) where
     All_in_known_fields no_known_field = Unit {0}
     All_in_known_fields (known_field_and f s fs) = All_in_known s × All_in_known_fields fs
 
+    -- names do not matter
     pub All_entered : Scope → Type 0
-    All_entered no_name = Unit {0}
-    All_entered (branch b s even odd) = Unit {0}
-    All_entered (entry q s sc) = All_in_known s × All_entered sc
+    All_entered (seeing names entered) = All_entries entered
+
+    pub All_entries : Entered → Type 0
+    All_entries no_entry = Unit {0}
+    All_entries (entry q s r es) = All_in_known s × All_in_row P r × All_entries es

@@ -179,31 +179,31 @@ given_patterns fs ps s n next before after g (answered bs e h) = h.patterns
 -- ---- by form
 
 module _ (p : Pat) (sc : Scope) (n : ℕ) (before : Bindings) where
-  as_pattern : {q : FlatPattern} {s : Known} {after : Bindings} {next : ℕ} {r : Result (Bor Held_scope) Refusal} → pattern_of p ≡ q → Bound_to q s sc n before after next r → Bound_to (pattern_of p) s sc n before after next r
+  as_pattern : {q : FlatPattern} {s : Known} {after : Bindings} {next : ℕ} {r : Result Held_scope Refusal} → pattern_of p ≡ q → Bound_to q s sc n before after next r → Bound_to (pattern_of p) s sc n before after next r
   as_pattern {s = s} {after} {next} {r} e h = subst (λ z. Bound_to z s sc n before after next r) (sym e) h
 
-  pub bound_name : (b : BindId) (s : Known) (r : Result (Bor Held_scope) Refusal) → p.form ≡ pattern.Bound b → IfOk r (λ inner. scope_of inner.now ≡ name_and b s sc) → IfErr r (λ x. x ≡ Memory) → Bound_to (pattern_of p) s sc n before before n r
+  pub bound_name : (b : BindId) (s : Known) (r : Result Held_scope Refusal) → p.form ≡ pattern.Bound b → IfOk r (λ inner. scope_of inner ≡ name_and b s sc) → IfErr r (λ x. x ≡ Memory) → Bound_to (pattern_of p) s sc n before before n r
   bound_name b s (Ok inner) is e e' = as_pattern (pattern_bound p b is) (answered [] (sym (append-nil before)) (subst (λ z. Binds (Bound_pattern b) s sc n [] z n) (sym e) (λ q. b_bound)))
   bound_name b s (Err r) is e e' = unanswered (only_memory e')
 
-  pub bound_wild : (s : Known) (inner : Bor Held_scope) → p.form ≡ pattern.Wild → scope_of inner.now ≡ sc → Bound_to (pattern_of p) s sc n before before n (Ok inner)
+  pub bound_wild : (s : Known) (inner : Held_scope) → p.form ≡ pattern.Wild → scope_of inner ≡ sc → Bound_to (pattern_of p) s sc n before before n (Ok inner)
   bound_wild s inner is e = as_pattern (pattern_wild p is) (answered [] (sym (append-nil before)) (subst (λ z. Binds Wild_pattern s sc n [] z n) (sym e) (λ q. b_wild)))
 
-  pub bound_typed : (q : Bor Pat) (t : Bor TypeExp) (s : Known) (after : Bindings) (next : ℕ) (r : Result (Bor Held_scope) Refusal) → p.form ≡ pattern.Typed q t → Bound_to (pattern_of q.now) s sc n before after next r → Bound_to (pattern_of p) s sc n before after next r
+  pub bound_typed : (q : Bor Pat) (t : Bor TypeExp) (s : Known) (after : Bindings) (next : ℕ) (r : Result Held_scope Refusal) → p.form ≡ pattern.Typed q t → Bound_to (pattern_of q.now) s sc n before after next r → Bound_to (pattern_of p) s sc n before after next r
   bound_typed q t s after next r is h = as_pattern (pattern_typed p q t is) (answered_as (λ bs inner m b i. b_typed (b i)) (typed_unbound (pattern_of q.now) _ s) h)
 
   -- the parts of the value, and then the patterns of the parts
-  bound_given : (whole : FlatPattern) (ps : Patterns Ref BindId) (s : Known) (ss : List Known) (mid next : ℕ) (bs between after : Bindings) (r : Result (Bor Held_scope) Refusal) → pattern_of p ≡ whole → between ≡ before ++ bs → Parts_given whole ps s n bs ss mid → All_bound_to ps ss sc mid between after next r → Bound_to (pattern_of p) s sc n before after next r
-  bound_given whole ps s ss mid next bs between after _ is e g (answered {a = inner} cs q h) = as_pattern is (answered (bs ++ cs) (q ∙ ap (λ z. z ++ cs) e ∙ append_assoc before bs cs) (g.binds sc (scope_of inner.now) cs next h))
+  bound_given : (whole : FlatPattern) (ps : Patterns Ref BindId) (s : Known) (ss : List Known) (mid next : ℕ) (bs between after : Bindings) (r : Result Held_scope Refusal) → pattern_of p ≡ whole → between ≡ before ++ bs → Parts_given whole ps s n bs ss mid → All_bound_to ps ss sc mid between after next r → Bound_to (pattern_of p) s sc n before after next r
+  bound_given whole ps s ss mid next bs between after _ is e g (answered {a = inner} cs q h) = as_pattern is (answered (bs ++ cs) (q ∙ ap (λ z. z ++ cs) e ∙ append_assoc before bs cs) (g.binds sc (scope_of inner) cs next h))
   bound_given whole ps s ss mid next bs between after _ is e g (unanswered h) = as_pattern is (unanswered (refused_as g.lacks h))
 
-  pub bound_tuple : (ps : Bor (List Pat)) (s : Known) (given : Bor (List Held_known)) (mid next : ℕ) (between after : Bindings) (r : Result (Bor Held_scope) Refusal) → p.form ≡ pattern.Tuple ps → Given_to (Tuple_pattern (patterns (map pattern_of ps.now))) (patterns (map pattern_of ps.now)) s n before between mid (Ok given) → All_bound_to (patterns (map pattern_of ps.now)) (map known_of given.now) sc mid between after next r → Bound_to (pattern_of p) s sc n before after next r
+  pub bound_tuple : (ps : Bor (List Pat)) (s : Known) (given : Bor (List Held_known)) (mid next : ℕ) (between after : Bindings) (r : Result Held_scope Refusal) → p.form ≡ pattern.Tuple ps → Given_to (Tuple_pattern (patterns (map pattern_of ps.now))) (patterns (map pattern_of ps.now)) s n before between mid (Ok given) → All_bound_to (patterns (map pattern_of ps.now)) (map known_of given.now) sc mid between after next r → Bound_to (pattern_of p) s sc n before after next r
   bound_tuple ps s given mid next between after r is (answered bs e g) h = bound_given _ _ s _ mid next bs between after r (pattern_tuple p ps is) e g h
 
   pub tuple_refused : (ps : Bor (List Pat)) (s : Known) (mid : ℕ) (between : Bindings) (after : Bindings) (next : ℕ) (r : Refusal) → p.form ≡ pattern.Tuple ps → Given_to (Tuple_pattern (patterns (map pattern_of ps.now))) (patterns (map pattern_of ps.now)) s n before between mid (Err r) → Bound_to (pattern_of p) s sc n before after next (Err r)
   tuple_refused ps s mid between after next r is (unanswered h) = as_pattern (pattern_tuple p ps is) (unanswered h)
 
-  pub bound_record : (fs : Bor (List PatField)) (s : Known) (given : Given) (mid next : ℕ) (between after : Bindings) (r : Result (Bor Held_scope) Refusal) → p.form ≡ pattern.Record fs → Fields_given (field_names fs.now) (field_patterns fs.now) s n before between mid (Ok given) → All_bound_to (patterns (map pattern_of given.pats.now)) (map known_of given.knowns.now) sc mid between after next r → Bound_to (pattern_of p) s sc n before after next r
+  pub bound_record : (fs : Bor (List PatField)) (s : Known) (given : Given) (mid next : ℕ) (between after : Bindings) (r : Result Held_scope Refusal) → p.form ≡ pattern.Record fs → Fields_given (field_names fs.now) (field_patterns fs.now) s n before between mid (Ok given) → All_bound_to (patterns (map pattern_of given.pats.now)) (map known_of given.knowns.now) sc mid between after next r → Bound_to (pattern_of p) s sc n before after next r
   bound_record fs s given mid next between after r is (answered bs e g) h = bound_given _ _ s _ mid next bs between after r (record_is p fs is) e g.parts (subst (λ z. All_bound_to z (map known_of given.knowns.now) sc mid between after next r) g.patterns h)
 
   pub record_refused : (fs : Bor (List PatField)) (s : Known) (mid : ℕ) (between : Bindings) (after : Bindings) (next : ℕ) (r : Refusal) → p.form ≡ pattern.Record fs → Fields_given (field_names fs.now) (field_patterns fs.now) s n before between mid (Err r) → Bound_to (pattern_of p) s sc n before after next (Err r)
@@ -295,16 +295,16 @@ module _ (ps : List Pat) (ss : List Held_known) (sc : Scope) (n : ℕ) where
   pub all_lead_start : (before : Bindings) → All_lead 0 0 n before before sc
   all_lead_start before = bound_so_far [] (sym (append-nil before)) (λ inner cs m h. h)
 
-  pub all_lead_on : (i j mid next : ℕ) (before between after : Bindings) (p : Pat) (s : Held_known) (names : Scope) (inner : Bor Held_scope) → i < length ps → j < length ss → All_lead i j mid before between names → Bound_to (pattern_of (get_or ps i p)) (known_of (get_or ss j s)) names mid between after next (Ok inner) → All_lead (i + 1) (j + 1) next before after (scope_of inner.now)
+  pub all_lead_on : (i j mid next : ℕ) (before between after : Bindings) (p : Pat) (s : Held_known) (names : Scope) (inner : Held_scope) → i < length ps → j < length ss → All_lead i j mid before between names → Bound_to (pattern_of (get_or ps i p)) (known_of (get_or ss j s)) names mid between after next (Ok inner) → All_lead (i + 1) (j + 1) next before after (scope_of inner)
   unfolding patterns
   all_lead_on i j mid next before between after p s names inner lt lt' (bound_so_far bs e f) (answered cs q b) = bound_so_far (bs ++ cs) (q ∙ ap (λ z. z ++ cs) e ∙ append_assoc before bs cs) rest
     where
-      rest : (last : Scope) (ds : Bindings) (m : ℕ) → All_bind (patterns (map pattern_of (drop (i + 1) ps))) (map known_of (drop (j + 1) ss)) (scope_of inner.now) next ds last m → All_bind (patterns (map pattern_of ps)) (map known_of ss) sc n ((bs ++ cs) ++ ds) last m
+      rest : (last : Scope) (ds : Bindings) (m : ℕ) → All_bind (patterns (map pattern_of (drop (i + 1) ps))) (map known_of (drop (j + 1) ss)) (scope_of inner) next ds last m → All_bind (patterns (map pattern_of ps)) (map known_of ss) sc n ((bs ++ cs) ++ ds) last m
       rest last ds m h = subst (λ z. All_bind (patterns (map pattern_of ps)) (map known_of ss) sc n z last m) (sym (append_assoc bs cs ds)) (f last (cs ++ ds) m (subst (λ z. All_bind (patterns (map pattern_of z)) (map known_of (drop j ss)) names mid (cs ++ ds) last m) (sym (one_more ps i p lt)) (subst (λ z. All_bind (patterns (map pattern_of (get_or ps i p ∷ drop (i + 1) ps))) (map known_of z) names mid (cs ++ ds) last m) (sym (one_more ss j s lt')) (λ q. b_more (b q) (h (q + pattern_numbers (pattern_of (get_or ps i p))))))))
 
-  pub all_lead_end : (i j next : ℕ) (before now : Bindings) (inner : Bor Held_scope) → length ps ≤ i → length ss ≤ j → All_lead i j next before now (scope_of inner.now) → All_bound_to (patterns (map pattern_of ps)) (map known_of ss) sc n before now next (Ok inner)
+  pub all_lead_end : (i j next : ℕ) (before now : Bindings) (inner : Held_scope) → length ps ≤ i → length ss ≤ j → All_lead i j next before now (scope_of inner) → All_bound_to (patterns (map pattern_of ps)) (map known_of ss) sc n before now next (Ok inner)
   unfolding patterns
-  all_lead_end i j next before now inner le le' (bound_so_far bs e f) = answered bs e (subst (λ z. All_bind (patterns (map pattern_of ps)) (map known_of ss) sc n z (scope_of inner.now) next) (append-nil bs) (f (scope_of inner.now) [] next (subst (λ z. All_bind (patterns (map pattern_of z)) (map known_of (drop j ss)) (scope_of inner.now) next [] (scope_of inner.now) next) (sym (drop_all i ps le)) (subst (λ z. All_bind (patterns (map pattern_of [])) (map known_of z) (scope_of inner.now) next [] (scope_of inner.now) next) (sym (drop_all j ss le')) (λ q. b_none)))))
+  all_lead_end i j next before now inner le le' (bound_so_far bs e f) = answered bs e (subst (λ z. All_bind (patterns (map pattern_of ps)) (map known_of ss) sc n z (scope_of inner) next) (append-nil bs) (f (scope_of inner) [] next (subst (λ z. All_bind (patterns (map pattern_of z)) (map known_of (drop j ss)) (scope_of inner) next [] (scope_of inner) next) (sym (drop_all i ps le)) (subst (λ z. All_bind (patterns (map pattern_of [])) (map known_of z) (scope_of inner) next [] (scope_of inner) next) (sym (drop_all j ss le')) (λ q. b_none)))))
 
 -- there are not as many of both
 unequal : (ps : List Pat) (ss : List Held_known) → (length ps ≡ length ss → ⊥) → Not_all_bound (patterns (map pattern_of ps)) (map known_of ss)

@@ -18,7 +18,8 @@ use Rattle.unfold.specs.declared.known.Function.{Function}
 use Rattle.unfold.specs.declared.known.Known.{Known as Held_known}
 use Rattle.unfold.specs.declared.known.KnownForm.{KnownForm, KnownForm-F, out-KnownForm, roll-KnownForm, roll-out-KnownForm}
 use Rattle.unfold.specs.declared.known.KnownForm.TheVariants as form
-use Rattle.unfold.specs.declared.known.Scope.{Scope as Held_scope}
+use Rattle.unfold.specs.declared.known.Names.{Names as Held_names}
+use Rattle.unfold.specs.declared.known.Entered.{Entered as Held_entered}
 use Rattle.unfold_parts.specs.Layouts.{shape_of}
 use Rattle.unfold_parts.proofs.Lacking.{No_tuple, No_record, Not_laid_out, tuple_no_scalar, record_no_scalar, function_no_scalar, primitive_no_scalar, scalar_no_tuple, record_no_tuple, function_no_tuple, primitive_no_tuple, scalar_no_record, tuple_no_record, function_no_record, primitive_no_record, function_unlaid, primitive_unlaid}
 
@@ -26,7 +27,7 @@ back : (f g : KnownForm) → out-KnownForm f ≡ out-KnownForm g → f ≡ g
 back f g q = sym (roll-out-KnownForm f) ∙ ap roll-KnownForm q ∙ roll-out-KnownForm g
 
 abbrev Layer : Type 0
-Layer = KnownForm-F KnownForm Held_scope Field Function Held_known
+Layer = KnownForm-F Held_entered KnownForm Held_names Field Function Held_known
 
 -- what is said of each form is said of what is known
 module _ (s : Held_known) (P : Known → Type 0) where

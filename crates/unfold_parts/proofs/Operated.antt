@@ -37,10 +37,11 @@ use Rattle.fut_blocks.specs.declared.block.Atom.TheVariants as atom
 use Rattle.fut_blocks.specs.declared.block.Making.{Making as Held_making}
 use Rattle.fut_blocks.specs.declared.block.Making.TheVariants as make
 use Rattle.fut_blocks.specs.declared.block.Operation.TheVariants as operation
+use Rattle.fut_blocks.specs.declared.row.RowShape.{RowShape}
 use Rattle.fut_blocks.specs.declared.row.RowShape.TheVariants as row_shape
 use Rattle.fut_blocks.specs.declared.block.Step.{roll-Step}
 use Rattle.fut_blocks.specs.Meaning.{fitted}
-use Rattle.fut_blocks.specs.Rows.{Unknown_row}
+use Rattle.fut_blocks.specs.Rows.{Unknown_row, row_of}
 use Rattle.fut_blocks.specs.Plain.{Action, Operate, Make, Read, Part_at, Replace_at, making_form, action_of, binding_of}
 use Rattle.fut_meaning.specs.Arrays.{Making, Make_array, Make_index, Make_update, Make_range}
 use Rattle.fut_meaning.specs.Operations.{arity, making, is_of_scalars}
@@ -336,9 +337,9 @@ module _ (t : IntType) (a : Act) (at : Place) (n : ℕ) (before : Bindings) wher
         by_steps : (bs : Bindings) (s : Known) (m : ℕ) → Made f ss n bs s m → Operates t o at ss n bs s m
         by_steps bs s m (made p x e) = subst (λ z. Operates t o at ss n z s m) (sym e) (one p x)
 
-    pub act_array : a ≡ flat.Array → Made_to (making_form (make.Array row_shape.Unknown) at) ss n before after next r → Operated t (operation_of a) at ss n before after next r
+    pub act_array : (rows : Bor RowShape) → a ≡ flat.Array → rows.now ≡ row_shape.Unknown → Made_to (making_form (make.Array rows) at) ss n before after next r → Operated t (operation_of a) at ss n before after next r
     unfolding making_form
-    act_array e h = made_as Array_of Make_array (making_form (make.Array row_shape.Unknown) at) (ap operation_of e) refl (λ us. ap (λ z. Make z Make_array at us) row_of-Unknown) (array_lacks t at ss) h
+    act_array rows e unknown h = made_as Array_of Make_array (making_form (make.Array rows) at) (ap operation_of e) refl (λ us. ap (λ z. Make z Make_array at us) (ap row_of unknown ∙ row_of-Unknown)) (array_lacks t at ss) h
 
     pub act_index : (ps : Bor (List Part)) → a ≡ flat.Index ps → Made_to (making_form (make.Index ps) at) ss n before after next r → Operated t (operation_of a) at ss n before after next r
     unfolding making_form

@@ -50,11 +50,11 @@ pub data Used (tops : Tops) (sc : Scope) (name : Ref) (at : Place) : Result Held
 abbrev pub Primitive_used : Primitive → Place → Known → Type 0
 Primitive_used p at s = (integer_at : ℕ → IntType) (tops : Tops) (sc : Scope) (lo k n : ℕ) → Unfolds integer_at tops sc lo (Use (ref.Prim p) at k) n [] s n
 
-abbrev pub Bound_to : FlatPattern → Known → Scope → ℕ → Bindings → Bindings → ℕ → Result (Bor Held_scope) Refusal → Type 0
-Bound_to p s sc n = Answered (λ bs inner next. Binds p s sc n bs (scope_of inner.now) next) (Not_bound p s)
+abbrev pub Bound_to : FlatPattern → Known → Scope → ℕ → Bindings → Bindings → ℕ → Result Held_scope Refusal → Type 0
+Bound_to p s sc n = Answered (λ bs inner next. Binds p s sc n bs (scope_of inner) next) (Not_bound p s)
 
-abbrev pub All_bound_to : Patterns Ref BindId → List Known → Scope → ℕ → Bindings → Bindings → ℕ → Result (Bor Held_scope) Refusal → Type 0
-All_bound_to ps ss sc n = Answered (λ bs inner next. All_bind ps ss sc n bs (scope_of inner.now) next) (Not_all_bound ps ss)
+abbrev pub All_bound_to : Patterns Ref BindId → List Known → Scope → ℕ → Bindings → Bindings → ℕ → Result Held_scope Refusal → Type 0
+All_bound_to ps ss sc n = Answered (λ bs inner next. All_bind ps ss sc n bs (scope_of inner) next) (Not_all_bound ps ss)
 
 -- The parts of a value by which a pattern is bound to it: the value is bound by the steps that give them and those by which the
 -- patterns of parts are bound to them, and where these lack, so does it.

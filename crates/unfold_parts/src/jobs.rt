@@ -19,6 +19,9 @@ use fut_primitives::line_of;
 use fut_scalar::Place;
 use unfold::{Known, KnownForm};
 
+// Nothing is told of rows.
+static UNKNOWN: RowShape<'static> = RowShape::Unknown;
+
 /// A primitive on arrays with its data as components, its function, and new names for the arguments of the function.
 #[derive(Clone, Copy)]
 pub struct Job<'a> {
@@ -138,7 +141,7 @@ pub fn end_job<'a>(
             Act::Primitive {
                 primitive,
                 place,
-                row: RowShape::Unknown,
+                row: &UNKNOWN,
                 data: job.atoms,
                 params: job.params,
                 body,

@@ -31,6 +31,6 @@ pub use packing::pack;
 pub use patterns::bind;
 pub use primitives::{Applied, apply_primitive, arity};
 pub use refusal::Refusal;
-pub use scope::bound;
+pub use scope::{bound, nothing};
 pub use steps::Unfolding;
 pub use tops::{Tops, known_use};

@@ -24,6 +24,9 @@ use fut_flat::Act;
 use fut_scalar::{BinOp, IntType, Place, Scalar, UnOp};
 use unfold::{Known, KnownForm};
 
+// Nothing is told of rows.
+static UNKNOWN: RowShape<'static> = RowShape::Unknown;
+
 /// The type of an integer without a suffix, by the number of its node.
 pub fn literal_type_at(types: &[IntType], number: u32) -> IntType
     ensures { result ≡ integer_at types.now number }
@@ -251,7 +254,7 @@ pub fn operate<'a>(
         Act::Coerce(_) => same(parts),
         Act::Declared(_) => same(parts),
         Act::Assert => assert_first(work, ty, mark, parts),
-        Act::Array => make(work, Making::Array(RowShape::Unknown), mark, parts),
+        Act::Array => make(work, Making::Array(&UNKNOWN), mark, parts),
         Act::Index(asked) => make(work, Making::Index(asked), mark, parts),
         Act::Update => make(work, Making::Update, mark, parts),
         Act::Range { stepped, end } => make(work, Making::Range { stepped, end }, mark, parts),

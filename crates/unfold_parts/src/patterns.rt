@@ -22,8 +22,8 @@ use unfold::{Field, Known, KnownForm, Scope};
 
 /// The names so far.
 #[derive(Clone, Copy)]
-struct Names<'a> {
-    scope: &'a Scope<'a>,
+struct Bound<'a> {
+    scope: Scope<'a>,
 }
 
 /// The patterns of a record's fields, and what is known of the parts that they are given.
@@ -39,9 +39,9 @@ pub fn bind<'a>(
     work: &mut Unfolding<'a>,
     pat: &'a Pat<'a>,
     known: Known<'a>,
-    scope: &'a Scope<'a>,
-) -> Result<&'a Scope<'a>, Refusal>
-    ensures { Bound_to (pattern_of pat.now) (known_of known.entry) (scope_of scope.now) work.old.next (steps_of work.old) (steps_of work.new) work.new.next result }
+    scope: Scope<'a>,
+) -> Result<Scope<'a>, Refusal>
+    ensures { Bound_to (pattern_of pat.now) (known_of known.entry) (scope_of scope.entry) work.old.next (steps_of work.old) (steps_of work.new) work.new.next result }
 {
     bind_known(work, pat, &known, scope)
 }
@@ -51,9 +51,9 @@ fn bind_known<'a>(
     work: &mut Unfolding<'a>,
     pat: &'a Pat<'a>,
     known: &Known<'a>,
-    scope: &'a Scope<'a>,
-) -> Result<&'a Scope<'a>, Refusal>
-    ensures { Bound_to (pattern_of pat.now) (known_of known.now) (scope_of scope.now) work.old.next (steps_of work.old) (steps_of work.new) work.new.next result }
+    scope: Scope<'a>,
+) -> Result<Scope<'a>, Refusal>
+    ensures { Bound_to (pattern_of pat.now) (known_of known.now) (scope_of scope.entry) work.old.next (steps_of work.old) (steps_of work.new) work.new.next result }
 {
     match pat.form {
         PatForm::Bound(number) => bound(work.bump, number, *known, scope),
@@ -75,21 +75,21 @@ fn bind_all<'a>(
     work: &mut Unfolding<'a>,
     parts: &'a [Pat<'a>],
     given: &'a [Known<'a>],
-    scope: &'a Scope<'a>,
-) -> Result<&'a Scope<'a>, Refusal>
-    ensures { All_bound_to (patterns (map pattern_of parts.now)) (map known_of given.now) (scope_of scope.now) work.old.next (steps_of work.old) (steps_of work.new) work.new.next result }
+    scope: Scope<'a>,
+) -> Result<Scope<'a>, Refusal>
+    ensures { All_bound_to (patterns (map pattern_of parts.now)) (map known_of given.now) (scope_of scope.entry) work.old.next (steps_of work.old) (steps_of work.new) work.new.next result }
 {
     if parts.len() != given.len() {
         return Err(Refusal::Lost);
     }
-    let mut names = Names { scope };
+    let mut names = Bound { scope };
     let mut at = 0;
     for part in parts {
         let scope = match bind_known(work, part, &given[at], names.scope) {
             Ok(scope) => scope,
             Err(refusal) => return Err(refusal),
         };
-        names = Names { scope };
+        names = Bound { scope };
         at += 1;
     }
     Ok(names.scope)

@@ -111,12 +111,12 @@ impl<'a> Tops<'a> {
 #[tactic(auto, using(crate::proofs::Using::using_names))]
 pub fn known_use<'a>(
     tops: &Tops<'a>,
-    scope: &'a Scope<'a>,
+    scope: Scope<'a>,
     reference: Ref,
     place: Place,
 ) -> Result<Known<'a>, Refusal>
     requires kept { Kept tops.now }
-    ensures { Used (tops_of tops.now) (scope_of scope.now) reference place result }
+    ensures { Used (tops_of tops.now) (scope_of scope.entry) reference place result }
 {
     match reference {
         Ref::Bound(number) => match find(scope, number) {

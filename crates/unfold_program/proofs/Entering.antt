@@ -32,8 +32,8 @@ module _ (s : Known) (n next : ℕ) where
   enter_unnamed m m' r (not_renewed x) = not_entered x
 
 module _ (p : FlatPattern) (sc : Scope) (s : Known) (old : Unfolding) where
-  pub turn_end : (i : BindId) (y : ℕ) (new : Unfolding) (inside : Bor Held_scope) (k : Held_known) (r : Result (Bor Held_scope) Refusal) → Bound_to p s sc old.next (steps_of old) (steps_of new) new.next (Ok inside) → known_of k ≡ named y → IfOk r (λ inner. scope_of inner.now ≡ name_and i (known_of k) (scope_of inside.now)) → IfErr r (λ x. x ≡ Memory) → Turn_bound_to p i y sc s old new r
-  turn_end i y new inside k (Ok inner) (answered bs e b) is q m = turn_bound_to bs e b (q ∙ ap (λ z. name_and i z (scope_of inside.now)) is)
+  pub turn_end : (i : BindId) (y : ℕ) (new : Unfolding) (inside : Held_scope) (k : Held_known) (r : Result Held_scope Refusal) → Bound_to p s sc old.next (steps_of old) (steps_of new) new.next (Ok inside) → known_of k ≡ named y → IfOk r (λ inner. scope_of inner ≡ name_and i (known_of k) (scope_of inside)) → IfErr r (λ x. x ≡ Memory) → Turn_bound_to p i y sc s old new r
+  turn_end i y new inside k (Ok inner) (answered bs e b) is q m = turn_bound_to bs e b (q ∙ ap (λ z. name_and i z (scope_of inside)) is)
   turn_end i y new inside k (Err x) h is q m = not_turn_bound (only_memory m)
 
   pub turn_err : (i : BindId) (y : ℕ) (new later : Unfolding) (x : Refusal) → Bound_to p s sc old.next (steps_of old) (steps_of new) new.next (Err x) → Turn_bound_to p i y sc s old later (Err x)
@@ -46,9 +46,9 @@ module _ (p : FlatPattern) (sc : Scope) (s : Known) (old : Unfolding) where
     pub row_value_err : (new : Unfolding) (x : Refusal) → Bound_to p s sc old.next (steps_of old) (steps_of mid) mid.next (Err x) → Row_bound_to p q y sc s old new (Err x)
     row_value_err new x (unanswered h) = not_row_bound (refused_as no_value_names h)
 
-    pub row_end : (new : Unfolding) (inside : Bor Held_scope) (k : Known) (r : Result (Bor Held_scope) Refusal) → k ≡ named y → Bound_to p s sc old.next (steps_of old) (steps_of mid) mid.next (Ok inside) → Bound_to q k (scope_of inside.now) mid.next (steps_of mid) (steps_of new) new.next r → Row_bound_to p q y sc s old new r
-    row_end new inside k r is h b = by_row r h (subst (λ z. Bound_to q z (scope_of inside.now) mid.next (steps_of mid) (steps_of new) new.next r) is b)
+    pub row_end : (new : Unfolding) (inside : Held_scope) (k : Known) (r : Result Held_scope Refusal) → k ≡ named y → Bound_to p s sc old.next (steps_of old) (steps_of mid) mid.next (Ok inside) → Bound_to q k (scope_of inside) mid.next (steps_of mid) (steps_of new) new.next r → Row_bound_to p q y sc s old new r
+    row_end new inside k r is h b = by_row r h (subst (λ z. Bound_to q z (scope_of inside) mid.next (steps_of mid) (steps_of new) new.next r) is b)
       where
-        by_row : (r : Result (Bor Held_scope) Refusal) → Bound_to p s sc old.next (steps_of old) (steps_of mid) mid.next (Ok inside) → Bound_to q (named y) (scope_of inside.now) mid.next (steps_of mid) (steps_of new) new.next r → Row_bound_to p q y sc s old new r
+        by_row : (r : Result Held_scope Refusal) → Bound_to p s sc old.next (steps_of old) (steps_of mid) mid.next (Ok inside) → Bound_to q (named y) (scope_of inside) mid.next (steps_of mid) (steps_of new) new.next r → Row_bound_to p q y sc s old new r
         by_row _ (answered bs e b) (answered cs f b') = row_bound_to bs cs (f ∙ ap (λ z. z ++ cs) e ∙ append_assoc (steps_of old) bs cs) b b'
         by_row _ (answered bs e b) (unanswered h) = not_row_bound (refused_as (no_names_of_row (old.next, bs, mid.next, b)) h)

@@ -17,7 +17,7 @@ use Rattle.fut_blocks.specs.declared.block.Block.{Block}
 use Rattle.fut_blocks.specs.declared.block.Step.{Step}
 use Rattle.fut_blocks.specs.Numbered.{Upward}
 use Rattle.fut_blocks.specs.Plain.{Action, action_of, binding_of, body_of, lets}
-use Rattle.unfold.specs.Held.{known_of, scope_of}
+use Rattle.unfold.specs.Held.{known_of}
 use Rattle.unfold.specs.Knowns.{Function_known, Known, Primitive_known, Record_known, Scalar_known, Scope, Tops, Tuple_known}
 use Rattle.unfold.specs.Shapes.{Laid, laid_scalar}
 use Rattle.unfold.specs.Stuck.{Not_bound, is_function, no_function, no_parameter}
@@ -44,7 +44,7 @@ use Rattle.unfold_program.specs.declared.walked.Parts.{Parts}
 use Rattle.unfold_program.specs.declared.walked.Branch.{Branch}
 use Rattle.unfold_program.specs.declared.walked.Walked.{Walked}
 use Rattle.unfold_program.specs.declared.walked.WalkedScalar.{WalkedScalar}
-use Rattle.unfold_program.specs.Answers.{Stepped_to, stepped_to, not_stepped, is_component, Becomes, stays, becomes_one, Packed_walk, packed_walk, not_packed_walk, Closed_to, closed_to, other_form, not_closed, Packed_closed, Scalar_closed, scalar_closed, not_scalar_closed, Walked_to, walked_to, not_walked, Operated_to, operated_to, not_operated, Use_known, use_known, no_use, Argued, argued, not_argued, defined, told}
+use Rattle.unfold_program.specs.Answers.{Stepped_to, stepped_to, not_stepped, is_component, Becomes, stays, becomes_one, Packed_walk, packed_walk, not_packed_walk, Closed_to, closed_to, other_form, not_closed, Packed_closed, Scalar_closed, scalar_closed, not_scalar_closed, Walked_to, walked_to, not_walked, Operated_to, operated_to, not_operated, Use_known, use_known, no_use, Argued, argued, not_argued, scope_in, defined, told}
 use Rattle.unfold_parts.specs.Unsized.{Stuck, Stuck_run, Unfolds}
 
 module _ {A : Type 0} where
@@ -179,15 +179,15 @@ module _ (s : Known) (f : Function) (old new : Unfolding) where
   unfolding patterns
   argued_none none = not_argued (lost (λ types tops. no_function (ap is_function (function_is f) ∙ empty f.parameters.now none)))
     where
-      empty : (ps : List Pat) → length ps ≡ 0 → is_function (Function_known (patterns (map pattern_of ps)) (term_of f.body.now) f.first (scope_of f.scope.now)) ≡ false
+      empty : (ps : List Pat) → length ps ≡ 0 → is_function (Function_known (patterns (map pattern_of ps)) (term_of f.body.now) f.first (scope_in f)) ≡ false
       empty [] none = refl
       empty (p ∷ ps) none = absurd (omega (arith, none))
 
-  pub argued_end : (d : Pat) (r : Result (Bor Held_scope) Refusal) → (length f.parameters.now ≡ 0 → ⊥) → Bound_to (pattern_of (get_or f.parameters.now 0 d)) s (scope_of f.scope.now) old.next (steps_of old) (steps_of new) new.next r → Argued f s old new r
+  pub argued_end : (d : Pat) (r : Result Held_scope Refusal) → (length f.parameters.now ≡ 0 → ⊥) → Bound_to (pattern_of (get_or f.parameters.now 0 d)) s (scope_in f) old.next (steps_of old) (steps_of new) new.next r → Argued f s old new r
   unfolding patterns
   argued_end d _ some (answered bs e b) = argued d bs some e b
   argued_end d _ some (unanswered x) = not_argued (refused_as (λ lacks types tops. subst (λ z. Stuck_run types tops z s) (sym (function_is f)) (lacking types tops f.parameters.now some lacks)) x)
     where
-      lacking : (types : ℕ → IntType) (tops : Tops) (ps : List Pat) → (length ps ≡ 0 → ⊥) → Not_bound (pattern_of (get_or ps 0 d)) s → Stuck_run types tops (Function_known (patterns (map pattern_of ps)) (term_of f.body.now) f.first (scope_of f.scope.now)) s
+      lacking : (types : ℕ → IntType) (tops : Tops) (ps : List Pat) → (length ps ≡ 0 → ⊥) → Not_bound (pattern_of (get_or ps 0 d)) s → Stuck_run types tops (Function_known (patterns (map pattern_of ps)) (term_of f.body.now) f.first (scope_in f)) s
       lacking types tops [] some lacks = absurd (some refl)
       lacking types tops (p ∷ ps) some lacks = no_parameter lacks

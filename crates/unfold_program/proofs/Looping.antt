@@ -1,7 +1,6 @@
 -- What a loop unfolds to, from its first value on, and where it is stuck.
 use Rattle.std.proofs.Common.{◌≡◌, ℕ, suc, ◌+◌, ◌≤◌, ◌++◌, [], ◌∷◌, length, Option, Some, None, Ok, Err, sym, ap, ◌∙◌, subst, append_assoc, append-nil, arith}
 use Rattle.std.specs.Prelude.{Result}
-use Rattle.std.specs.Borrow.{Bor}
 use Rattle.std.proofs.lemmas.List.{length-append}
 use Rattle.fut_scalar.specs.declared.place.BindId.{BindId}
 use Rattle.fut_flat.specs.declared.exp.Exp.{Exp}
@@ -120,13 +119,13 @@ module _ (c : Context) (sc : Scope) (l : LoopTree) (turns : FlatTurns) (first : 
     unstepped r (entered_to la up lt) x = not_looped (refused_as (λ lacks. absurd (lacks (shape_of (known_of first.known)) en.first.now la)) x)
 
 -- the names of a turn come by steps behind those so far
-pub turn_mark : (p : FlatPattern) (i : BindId) (y : ℕ) (sc : Scope) (s : Known) (m3 m4 : Unfolding) (inner : Bor Held_scope) (mark : ℕ) → mark ≡ length (steps_of m3) → Turn_bound_to p i y sc s m3 m4 (Ok inner) → mark ≤ length (steps_of m4)
+pub turn_mark : (p : FlatPattern) (i : BindId) (y : ℕ) (sc : Scope) (s : Known) (m3 m4 : Unfolding) (inner : Held_scope) (mark : ℕ) → mark ≡ length (steps_of m3) → Turn_bound_to p i y sc s m3 m4 (Ok inner) → mark ≤ length (steps_of m4)
 turn_mark p i y sc s m3 m4 inner mark e (turn_bound_to bs g b is) = omega (arith, e, ap length g, length-append (steps_of m3) bs)
 
-pub row_mark : (p q : FlatPattern) (y : ℕ) (sc : Scope) (s : Known) (m3 m4 : Unfolding) (inner : Bor Held_scope) (mark : ℕ) → mark ≡ length (steps_of m3) → Row_bound_to p q y sc s m3 m4 (Ok inner) → mark ≤ length (steps_of m4)
+pub row_mark : (p q : FlatPattern) (y : ℕ) (sc : Scope) (s : Known) (m3 m4 : Unfolding) (inner : Held_scope) (mark : ℕ) → mark ≡ length (steps_of m3) → Row_bound_to p q y sc s m3 m4 (Ok inner) → mark ≤ length (steps_of m4)
 row_mark p q y sc s m3 m4 inner mark e (row_bound_to bs cs g b b') = omega (arith, e, ap length g, length-append (steps_of m3) (bs ++ cs))
 
-pub while_mark : (c : Context) (sc : Scope) (p : FlatPattern) (lo : ℕ) (test : FlatTerm) (s : Known) (m1 m2 : Unfolding) (t : Branch) (m3 : Unfolding) (inner : Bor Held_scope) (mark : ℕ) → mark ≡ length (steps_of m1) → Tested_to c sc p lo test s m1 m2 (Ok t) → Bound_to p s sc m2.next (steps_of m2) (steps_of m3) m3.next (Ok inner) → mark ≤ length (steps_of m3)
+pub while_mark : (c : Context) (sc : Scope) (p : FlatPattern) (lo : ℕ) (test : FlatTerm) (s : Known) (m1 m2 : Unfolding) (t : Branch) (m3 : Unfolding) (inner : Held_scope) (mark : ℕ) → mark ≡ length (steps_of m1) → Tested_to c sc p lo test s m1 m2 (Ok t) → Bound_to p s sc m2.next (steps_of m2) (steps_of m3) m3.next (Ok inner) → mark ≤ length (steps_of m3)
 while_mark c sc p lo test s m1 m2 t m3 inner mark e (tested_to es cs same b u is h) (answered fs g b') = omega (arith, e, ap length same, ap length g, length-append (steps_of m2) fs)
 
 -- a name that is taken is the next one
@@ -150,16 +149,16 @@ module _ (c : Context) (sc : Scope) (l : LoopTree) (i : BindId) (count : FlatTer
     pub counted_unbound : (new : Unfolding) (r : Refusal) → Entered_to (known_of first.known) m1.next m2.next (Ok en) → Turn_bound_to (pattern_of l.pat) i y sc (known_of en.known) m3 m4 (Err r) → Looped_to c sc l (Counted i count) first old new (Err r)
     counted_unbound new r h (not_turn_bound x) = not_looped (refused_as (unbound c sc l (Counted i count) first old new m1.next m2.next en h) x)
 
-    module _ (mark : ℕ) (inner : Bor Held_scope) where
-      pub counted_body_err : (m5 new : Unfolding) (r : Refusal) → Scalar_unfolded c sc counting count old m1 (Ok k) → Entered_to (known_of first.known) m1.next m2.next (Ok en) → Turn_bound_to (pattern_of l.pat) i y sc (known_of en.known) m3 m4 (Ok inner) → Blocked_to c (scope_of inner.now) mark k.at (term_of l.body) (known_of first.known) m4 m5 (Err r) → Looped_to c sc l (Counted i count) first old new (Err r)
+    module _ (mark : ℕ) (inner : Held_scope) where
+      pub counted_body_err : (m5 new : Unfolding) (r : Refusal) → Scalar_unfolded c sc counting count old m1 (Ok k) → Entered_to (known_of first.known) m1.next m2.next (Ok en) → Turn_bound_to (pattern_of l.pat) i y sc (known_of en.known) m3 m4 (Ok inner) → Blocked_to c (scope_of inner) mark k.at (term_of l.body) (known_of first.known) m4 m5 (Err r) → Looped_to c sc l (Counted i count) first old new (Err r)
       counted_body_err m5 new r (scalar_unfolded cs g p h) en_to (turn_bound_to {inside = inside} es g' b is) (not_blocked x) =
           not_looped (refused_as (body_stuck c sc l (Counted i count) first old new m1.next m2.next en (omega (arith, q, h)) en_to (m3.next, es, m4.next, b) (λ lo at. subst (λ z. Turn_names (told c) (defined c) sc inside (1 + lo + pattern_numbers (pattern_of l.pat) + numbers (term_of l.first)) (Counted i count) z) (sym is) (turn_counted y (moved c (omega (arith, q, at)) p)))) x)
 
-      pub counted_differs : (new : Unfolding) → steps_of m3 ≡ steps_of m1 → Scalar_unfolded c sc counting count old m1 (Ok k) → Turn_bound_to (pattern_of l.pat) i y sc (known_of en.known) m3 m4 (Ok inner) → Blocked_to c (scope_of inner.now) mark k.at (term_of l.body) (known_of first.known) m4 new (Ok None) → Looped_to c sc l (Counted i count) first old new (Ok None)
+      pub counted_differs : (new : Unfolding) → steps_of m3 ≡ steps_of m1 → Scalar_unfolded c sc counting count old m1 (Ok k) → Turn_bound_to (pattern_of l.pat) i y sc (known_of en.known) m3 m4 (Ok inner) → Blocked_to c (scope_of inner) mark k.at (term_of l.body) (known_of first.known) m4 new (Ok None) → Looped_to c sc l (Counted i count) first old new (Ok None)
       counted_differs new same (scalar_unfolded cs g p h) (turn_bound_to es g' b is) (block_differs ds none g'') =
           turns_differ (cs ++ (es ++ ds)) none (grown (steps_of old) (steps_of m1) (steps_of new) cs (es ++ ds) g (grown (steps_of m1) (steps_of m4) (steps_of new) es ds (g' ∙ ap (λ z. z ++ es) same) g''))
 
-      pub counted_end : (m5 new : Unfolding) (e : Branch) (r : Result (Option Walked) Refusal) → mark ≡ length (steps_of m3) → steps_of m3 ≡ steps_of m1 → Named_as m2.next m3.next (Ok y) → Scalar_unfolded c sc counting count old m1 (Ok k) → Entered_to (known_of first.known) m1.next m2.next (Ok en) → Turn_bound_to (pattern_of l.pat) i y sc (known_of en.known) m3 m4 (Ok inner) → Blocked_to c (scope_of inner.now) mark k.at (term_of l.body) (known_of first.known) m4 m5 (Ok (Some e)) → Stepped_to (known_of first.known) (act.For en.params.now en.first.now y k.atom (body_of e.block.now)) e.at m5 new r → Looped_to c sc l (Counted i count) first old new r
+      pub counted_end : (m5 new : Unfolding) (e : Branch) (r : Result (Option Walked) Refusal) → mark ≡ length (steps_of m3) → steps_of m3 ≡ steps_of m1 → Named_as m2.next m3.next (Ok y) → Scalar_unfolded c sc counting count old m1 (Ok k) → Entered_to (known_of first.known) m1.next m2.next (Ok en) → Turn_bound_to (pattern_of l.pat) i y sc (known_of en.known) m3 m4 (Ok inner) → Blocked_to c (scope_of inner) mark k.at (term_of l.body) (known_of first.known) m4 m5 (Ok (Some e)) → Stepped_to (known_of first.known) (act.For en.params.now en.first.now y k.atom (body_of e.block.now)) e.at m5 new r → Looped_to c sc l (Counted i count) first old new r
       counted_end m5 new e _ at_mark same nm (scalar_unfolded cs g p h) (entered_to la up lt) (turn_bound_to {inside = inside} es g' b is) (blocked_to {s = s'} ds ws f u lb hb) (stepped_to xs gs up' lx) =
           let t = f (steps_of m3) es (sym at_mark) g' in
           let b' = subst (λ z. Binds (pattern_of l.pat) (known_of en.known) sc z es inside m4.next) (name_is nm) b in
@@ -190,16 +189,16 @@ module _ (c : Context) (sc : Scope) (l : LoopTree) (row : FlatPattern) (rows : F
         none (no_value_names lacks) lo i bs at v = no_turn (carried v la lt) lacks
         none (no_names_of_row b lacks) lo i bs at v = no_row (carried v la lt) (bound_at b (1 + lo)) lacks
 
-    module _ (mark : ℕ) (inner : Bor Held_scope) where
-      pub row_body_err : (m5 new : Unfolding) (r : Refusal) → Scalar_unfolded c sc counting rows old m1 (Ok k) → Entered_to (known_of first.known) m1.next m2.next (Ok en) → Row_bound_to (pattern_of l.pat) row y sc (known_of en.known) m3 m4 (Ok inner) → Blocked_to c (scope_of inner.now) mark k.at (term_of l.body) (known_of first.known) m4 m5 (Err r) → Looped_to c sc l (Over row rows) first old new (Err r)
+    module _ (mark : ℕ) (inner : Held_scope) where
+      pub row_body_err : (m5 new : Unfolding) (r : Refusal) → Scalar_unfolded c sc counting rows old m1 (Ok k) → Entered_to (known_of first.known) m1.next m2.next (Ok en) → Row_bound_to (pattern_of l.pat) row y sc (known_of en.known) m3 m4 (Ok inner) → Blocked_to c (scope_of inner) mark k.at (term_of l.body) (known_of first.known) m4 m5 (Err r) → Looped_to c sc l (Over row rows) first old new (Err r)
       row_body_err m5 new r (scalar_unfolded cs g p h) en_to (row_bound_to {k = m} es fs g' b b') (not_blocked x) =
           not_looped (refused_as (body_stuck c sc l (Over row rows) first old new m1.next m2.next en (omega (arith, q, h)) en_to (m3.next, es, m, b) (λ lo at. turn_row y (moved c (omega (arith, q, at)) p) (m, fs, m4.next, b' _))) x)
 
-      pub row_differs : (new : Unfolding) → steps_of m3 ≡ steps_of m1 → Scalar_unfolded c sc counting rows old m1 (Ok k) → Row_bound_to (pattern_of l.pat) row y sc (known_of en.known) m3 m4 (Ok inner) → Blocked_to c (scope_of inner.now) mark k.at (term_of l.body) (known_of first.known) m4 new (Ok None) → Looped_to c sc l (Over row rows) first old new (Ok None)
+      pub row_differs : (new : Unfolding) → steps_of m3 ≡ steps_of m1 → Scalar_unfolded c sc counting rows old m1 (Ok k) → Row_bound_to (pattern_of l.pat) row y sc (known_of en.known) m3 m4 (Ok inner) → Blocked_to c (scope_of inner) mark k.at (term_of l.body) (known_of first.known) m4 new (Ok None) → Looped_to c sc l (Over row rows) first old new (Ok None)
       row_differs new same (scalar_unfolded cs g p h) (row_bound_to es fs g' b b') (block_differs ds none g'') =
           turns_differ (cs ++ ((es ++ fs) ++ ds)) none (grown (steps_of old) (steps_of m1) (steps_of new) cs ((es ++ fs) ++ ds) g (grown (steps_of m1) (steps_of m4) (steps_of new) (es ++ fs) ds (g' ∙ ap (λ z. z ++ (es ++ fs)) same) g''))
 
-      pub row_end : (m5 new : Unfolding) (e : Branch) (r : Result (Option Walked) Refusal) → mark ≡ length (steps_of m3) → steps_of m3 ≡ steps_of m1 → Named_as m2.next m3.next (Ok y) → Scalar_unfolded c sc counting rows old m1 (Ok k) → Entered_to (known_of first.known) m1.next m2.next (Ok en) → Row_bound_to (pattern_of l.pat) row y sc (known_of en.known) m3 m4 (Ok inner) → Blocked_to c (scope_of inner.now) mark k.at (term_of l.body) (known_of first.known) m4 m5 (Ok (Some e)) → Stepped_to (known_of first.known) (act.Over en.params.now en.first.now y k.atom (body_of e.block.now)) e.at m5 new r → Looped_to c sc l (Over row rows) first old new r
+      pub row_end : (m5 new : Unfolding) (e : Branch) (r : Result (Option Walked) Refusal) → mark ≡ length (steps_of m3) → steps_of m3 ≡ steps_of m1 → Named_as m2.next m3.next (Ok y) → Scalar_unfolded c sc counting rows old m1 (Ok k) → Entered_to (known_of first.known) m1.next m2.next (Ok en) → Row_bound_to (pattern_of l.pat) row y sc (known_of en.known) m3 m4 (Ok inner) → Blocked_to c (scope_of inner) mark k.at (term_of l.body) (known_of first.known) m4 m5 (Ok (Some e)) → Stepped_to (known_of first.known) (act.Over en.params.now en.first.now y k.atom (body_of e.block.now)) e.at m5 new r → Looped_to c sc l (Over row rows) first old new r
       row_end m5 new e _ at_mark same nm (scalar_unfolded cs g p h) (entered_to la up lt) (row_bound_to {inside = inside} {k = m} es fs g' b b') (blocked_to {s = s'} ds ws f u lb hb) (stepped_to xs gs up' lx) =
           let t = f (steps_of m3) (es ++ fs) (sym at_mark) g' in
           let b'' = subst (λ z. Binds (pattern_of l.pat) (known_of en.known) sc z es inside m) (name_is nm) b in
@@ -217,19 +216,19 @@ module _ (c : Context) (sc : Scope) (p : FlatPattern) (lo : ℕ) (t : FlatTerm) 
   pub test_unbound : (new : Unfolding) (r : Refusal) → Bound_to p s sc old.next (steps_of old) (steps_of mid) mid.next (Err r) → Tested_to c sc p lo t s old new (Err r)
   test_unbound new r (unanswered x) = not_tested (refused_as no_names_of_value x)
 
-  module _ (inner : Bor Held_scope) (m2 : Unfolding) where
-    pub test_err : (new : Unfolding) (r : Refusal) → Bound_to p s sc old.next (steps_of old) (steps_of mid) mid.next (Ok inner) → Scalar_unfolded c (scope_of inner.now) lo t mid m2 (Err r) → Tested_to c sc p lo t s old new (Err r)
+  module _ (inner : Held_scope) (m2 : Unfolding) where
+    pub test_err : (new : Unfolding) (r : Refusal) → Bound_to p s sc old.next (steps_of old) (steps_of mid) mid.next (Ok inner) → Scalar_unfolded c (scope_of inner) lo t mid m2 (Err r) → Tested_to c sc p lo t s old new (Err r)
     test_err new r (answered es g b) (no_scalar_unfolded x) = not_tested (refused_as none x)
       where
-        none : Not_scalar c (scope_of inner.now) lo t → No_truth c sc p lo t s
+        none : Not_scalar c (scope_of inner) lo t → No_truth c sc p lo t s
         none (stuck_term w) = stuck_truth (old.next, es, mid.next, b) w
         none (other_value u lacks) = other_truth (old.next, es, mid.next, b) u lacks
 
     module _ (truth : WalkedScalar) (mark : ℕ) (q : mark ≡ length (steps_of old)) where
-      pub test_mark : Bound_to p s sc old.next (steps_of old) (steps_of mid) mid.next (Ok inner) → Scalar_unfolded c (scope_of inner.now) lo t mid m2 (Ok truth) → mark ≤ length (steps_of m2)
+      pub test_mark : Bound_to p s sc old.next (steps_of old) (steps_of mid) mid.next (Ok inner) → Scalar_unfolded c (scope_of inner) lo t mid m2 (Ok truth) → mark ≤ length (steps_of m2)
       test_mark (answered es g b) (scalar_unfolded cs g' u h) = omega (arith, q, ap length g, ap length g', length-append (steps_of old) es, length-append (steps_of mid) cs)
 
-      pub test_end : (new : Unfolding) (r : Result Branch Refusal) → Bound_to p s sc old.next (steps_of old) (steps_of mid) mid.next (Ok inner) → Scalar_unfolded c (scope_of inner.now) lo t mid m2 (Ok truth) → Scalar_closed mark truth m2 new r → Tested_to c sc p lo t s old new r
+      pub test_end : (new : Unfolding) (r : Result Branch Refusal) → Bound_to p s sc old.next (steps_of old) (steps_of mid) mid.next (Ok inner) → Scalar_unfolded c (scope_of inner) lo t mid m2 (Ok truth) → Scalar_closed mark truth m2 new r → Tested_to c sc p lo t s old new r
       test_end new _ (answered es g b) (scalar_unfolded cs g' u h) (scalar_closed f n k) =
           let z = f (steps_of old) (es ++ cs) (sym q) (grown (steps_of old) (steps_of mid) (steps_of m2) es cs g g') in
           tested_to es cs (z.0) b (ending c (sym n) u) (z.1 ∙ ap (λ y. lets y (truth.atom ∷ [])) (append-nil (es ++ cs))) (k ∙ h)
@@ -248,16 +247,16 @@ module _ (c : Context) (sc : Scope) (l : LoopTree) (test : FlatTerm) (first : Wa
     pub while_unbound : (new : Unfolding) (r : Refusal) → Entered_to (known_of first.known) old.next m1.next (Ok en) → Bound_to (pattern_of l.pat) (known_of en.known) sc m2.next (steps_of m2) (steps_of m3) m3.next (Err r) → Looped_to c sc l (While test) first old new (Err r)
     while_unbound new r h (unanswered x) = not_looped (refused_as (unbound c sc l (While test) first old new old.next m1.next en h) x)
 
-    module _ (mark : ℕ) (inner : Bor Held_scope) where
-      pub while_body_err : (m4 new : Unfolding) (r : Refusal) → Entered_to (known_of first.known) old.next m1.next (Ok en) → Tested_to c sc (pattern_of l.pat) first.at test (known_of en.known) m1 m2 (Ok t) → Bound_to (pattern_of l.pat) (known_of en.known) sc m2.next (steps_of m2) (steps_of m3) m3.next (Ok inner) → Blocked_to c (scope_of inner.now) mark t.at (term_of l.body) (known_of first.known) m3 m4 (Err r) → Looped_to c sc l (While test) first old new (Err r)
+    module _ (mark : ℕ) (inner : Held_scope) where
+      pub while_body_err : (m4 new : Unfolding) (r : Refusal) → Entered_to (known_of first.known) old.next m1.next (Ok en) → Tested_to c sc (pattern_of l.pat) first.at test (known_of en.known) m1 m2 (Ok t) → Bound_to (pattern_of l.pat) (known_of en.known) sc m2.next (steps_of m2) (steps_of m3) m3.next (Ok inner) → Blocked_to c (scope_of inner) mark t.at (term_of l.body) (known_of first.known) m3 m4 (Err r) → Looped_to c sc l (While test) first old new (Err r)
       while_body_err m4 new r en_to (tested_to es cs same b u is h) (answered fs g b') (not_blocked x) =
           not_looped (refused_as (body_stuck c sc l (While test) first old new old.next m1.next en h en_to (m2.next, fs, m3.next, b') (λ lo at. turn_tested)) x)
 
-      pub while_differs : (new : Unfolding) → steps_of m1 ≡ steps_of old → Tested_to c sc (pattern_of l.pat) first.at test (known_of en.known) m1 m2 (Ok t) → Bound_to (pattern_of l.pat) (known_of en.known) sc m2.next (steps_of m2) (steps_of m3) m3.next (Ok inner) → Blocked_to c (scope_of inner.now) mark t.at (term_of l.body) (known_of first.known) m3 new (Ok None) → Looped_to c sc l (While test) first old new (Ok None)
+      pub while_differs : (new : Unfolding) → steps_of m1 ≡ steps_of old → Tested_to c sc (pattern_of l.pat) first.at test (known_of en.known) m1 m2 (Ok t) → Bound_to (pattern_of l.pat) (known_of en.known) sc m2.next (steps_of m2) (steps_of m3) m3.next (Ok inner) → Blocked_to c (scope_of inner) mark t.at (term_of l.body) (known_of first.known) m3 new (Ok None) → Looped_to c sc l (While test) first old new (Ok None)
       while_differs new before (tested_to es cs same b u is h) (answered fs g b') (block_differs ds none g'') =
           turns_differ (fs ++ ds) none (grown (steps_of old) (steps_of m3) (steps_of new) fs ds (g ∙ ap (λ z. z ++ fs) (same ∙ before)) g'')
 
-      pub while_end : (m4 new : Unfolding) (e : Branch) (r : Result (Option Walked) Refusal) → mark ≡ length (steps_of m1) → steps_of m1 ≡ steps_of old → Entered_to (known_of first.known) old.next m1.next (Ok en) → Tested_to c sc (pattern_of l.pat) first.at test (known_of en.known) m1 m2 (Ok t) → Bound_to (pattern_of l.pat) (known_of en.known) sc m2.next (steps_of m2) (steps_of m3) m3.next (Ok inner) → Blocked_to c (scope_of inner.now) mark t.at (term_of l.body) (known_of first.known) m3 m4 (Ok (Some e)) → Stepped_to (known_of first.known) (act.While l.mark en.params.now en.first.now (body_of t.block.now) (body_of e.block.now)) e.at m4 new r → Looped_to c sc l (While test) first old new r
+      pub while_end : (m4 new : Unfolding) (e : Branch) (r : Result (Option Walked) Refusal) → mark ≡ length (steps_of m1) → steps_of m1 ≡ steps_of old → Entered_to (known_of first.known) old.next m1.next (Ok en) → Tested_to c sc (pattern_of l.pat) first.at test (known_of en.known) m1 m2 (Ok t) → Bound_to (pattern_of l.pat) (known_of en.known) sc m2.next (steps_of m2) (steps_of m3) m3.next (Ok inner) → Blocked_to c (scope_of inner) mark t.at (term_of l.body) (known_of first.known) m3 m4 (Ok (Some e)) → Stepped_to (known_of first.known) (act.While l.mark en.params.now en.first.now (body_of t.block.now) (body_of e.block.now)) e.at m4 new r → Looped_to c sc l (While test) first old new r
       while_end m4 new e _ at_mark before (entered_to la up lt) (tested_to {u = w} es cs same b u is h) (answered fs g b') (blocked_to ds ws f u' lb hb) (stepped_to xs gs up' lx) =
           let z = f (steps_of m1) fs (sym at_mark) (g ∙ ap (λ y. y ++ fs) same) in
           looped_to (record {

@@ -18,7 +18,7 @@ use Rattle.fut_blocks.specs.Meaning.{look}
 use Rattle.unfold_reach.proofs.Lists.{drop_end, one_more}
 use Rattle.unfold_reach.specs.Reach.{Reached, reached, is_set, named_term}
 use Rattle.unfold.specs.Held.{known_of}
-use Rattle.unfold.specs.Knowns.{Known, Tuple_known, Knowns, knowns, listed, no_name, Scalar_known, Scope, Tops}
+use Rattle.unfold.specs.Knowns.{Known, Tuple_known, Knowns, knowns, listed, nothing_seen, Scalar_known, Scope, Tops}
 use Rattle.unfold.specs.Programs.{d_none, d_reached, d_other}
 use Rattle.unfold.specs.Shapes.{All_laid, Laid, Scalar_shape, Shapes, Tuple_shape, laid_more, laid_none, laid_scalar, laid_tuple}
 use Rattle.unfold.specs.Stuck.{in_definitions, in_entry, no_entry, no_result, stuck_definition, stuck_next, stuck_on, stuck_other, stuck_run}
@@ -104,18 +104,18 @@ module _ (b : BindId) (e : FlatTerm) (made : Made) (old : Unfolding) where
   pub define_passed : (is_reached_here : Bool) (c : Context) (first next : ℕ) → is_reached_here ≡ false → c ≡ made.context → first ≡ made.at + 1 → next ≡ first + numbers e → Defined_to b e is_reached_here made old old (Ok (record { context = c; at = next }))
   define_passed is_reached_here c first next h is q q' = passed_over h refl refl (ap (λ (z : Context). z.types.now) is) (ap defined is) (omega (arith, q, q'))
 
-  pub define_ok : (is_reached_here : Bool) (c c' : Context) (sc : Scope) (first : ℕ) (new : Unfolding) (w : Walked) → is_reached_here ≡ true → c ≡ made.context → sc ≡ no_name → first ≡ made.at + 1 → Unfolded c sc first e old new (Ok w) → defined c' ≡ (b.0, known_of w.known) ∷ defined c → c'.types.now ≡ c.types.now → Defined_to b e is_reached_here made old new (Ok (record { context = c'; at = w.at }))
+  pub define_ok : (is_reached_here : Bool) (c c' : Context) (sc : Scope) (first : ℕ) (new : Unfolding) (w : Walked) → is_reached_here ≡ true → c ≡ made.context → sc ≡ nothing_seen → first ≡ made.at + 1 → Unfolded c sc first e old new (Ok w) → defined c' ≡ (b.0, known_of w.known) ∷ defined c → c'.types.now ≡ c.types.now → Defined_to b e is_reached_here made old new (Ok (record { context = c'; at = w.at }))
   define_ok is_reached_here c c' sc first new w h is none q (unfolded bs g u k) ds ts =
       defined_to bs h g
-      (subst (λ z. Unfolds (told z) (defined z) no_name (1 + made.at) e old.next bs (known_of w.known) new.next) is (moved c (omega (arith, q)) (subst (λ z. Unfolds (told c) (defined c) z first e old.next bs (known_of w.known) new.next) none u)))
+      (subst (λ z. Unfolds (told z) (defined z) nothing_seen (1 + made.at) e old.next bs (known_of w.known) new.next) is (moved c (omega (arith, q)) (subst (λ z. Unfolds (told c) (defined c) z first e old.next bs (known_of w.known) new.next) none u)))
       (ts ∙ ap (λ (z : Context). z.types.now) is) (ds ∙ ap (λ z. (b.0, known_of w.known) ∷ defined z) is) (omega (arith, q, k))
 
   pub define_err : (is_reached_here : Bool) (new : Unfolding) (r : Refusal) → r ≡ Memory → Defined_to b e is_reached_here made old new (Err r)
   define_err is_reached_here new r m = not_defined (only_memory m)
 
-  pub define_stuck : (is_reached_here : Bool) (c : Context) (sc : Scope) (first : ℕ) (mid new : Unfolding) (r : Refusal) → is_reached_here ≡ true → c ≡ made.context → sc ≡ no_name → first ≡ made.at + 1 → Unfolded c sc first e old mid (Err r) → Defined_to b e is_reached_here made old new (Err r)
+  pub define_stuck : (is_reached_here : Bool) (c : Context) (sc : Scope) (first : ℕ) (mid new : Unfolding) (r : Refusal) → is_reached_here ≡ true → c ≡ made.context → sc ≡ nothing_seen → first ≡ made.at + 1 → Unfolded c sc first e old mid (Err r) → Defined_to b e is_reached_here made old new (Err r)
   define_stuck is_reached_here c sc first mid new r h is none q (refused x) =
-      not_defined (refused_as (λ w. (h, subst (λ z. Stuck (told z) (defined z) no_name (1 + made.at) e) is (stuck_at c (omega (arith, q)) (subst (λ z. Stuck (told c) (defined c) z first e) none w)))) x)
+      not_defined (refused_as (λ w. (h, subst (λ z. Stuck (told z) (defined z) nothing_seen (1 + made.at) e) is (stuck_at c (omega (arith, q)) (subst (λ z. Stuck (told c) (defined c) z first e) none w)))) x)
 
 -- ---- one definition after the other
 
@@ -157,8 +157,8 @@ module _ (entry : ℕ) (ds : List Definition) (old : Unfolding) where
         on (passed_over passed gn nn tn dn an) = definitions_from bs (gn ∙ g) (tn ∙ ts) (λ end cs m u. here end cs m (d_other (sym told_here ∙ passed) (behind cs end m dn an nn u))) (λ w. stuck_here (stuck_other (sym told_here ∙ passed) (stuck_then dn an w)))
         on (defined_to {s = s} cs taken gn v tn dn an) = definitions_from (bs ++ cs) (grown (steps_of old) (steps_of now) (steps_of new) bs cs g gn) (tn ∙ ts)
             (λ end es m u. subst (λ z. Definitions_unfold (integer_at types) entry [] (flat_tops 0 (map named_term ds)) old.next z end m) (sym (append_assoc bs cs es))
-            (here end (cs ++ es) m (d_reached (sym told_here ∙ taken) (subst (λ z. Unfolds (integer_at z) (defined made.context) no_name (1 + made.at) (term_of x.value.now) now.next cs s new.next) ts v) (behind es end m dn an refl u))))
-            (λ w. stuck_here (stuck_next (sym told_here ∙ taken) (subst (λ z. Unfolds (integer_at z) (defined made.context) no_name (1 + made.at) (term_of x.value.now) now.next cs s new.next) ts v) (stuck_then dn an w)))
+            (here end (cs ++ es) m (d_reached (sym told_here ∙ taken) (subst (λ z. Unfolds (integer_at z) (defined made.context) nothing_seen (1 + made.at) (term_of x.value.now) now.next cs s new.next) ts v) (behind es end m dn an refl u))))
+            (λ w. stuck_here (stuck_next (sym told_here ∙ taken) (subst (λ z. Unfolds (integer_at z) (defined made.context) nothing_seen (1 + made.at) (term_of x.value.now) now.next cs s new.next) ts v) (stuck_then dn an w)))
 
     pub from_done : length ds ≤ i → Definitions_from entry ds types old now made i → Definitions_to types entry (flat_tops 0 (map named_term ds)) old now (Ok made)
     unfolding flat_tops
@@ -175,8 +175,8 @@ module _ (entry : ℕ) (ds : List Definition) (old : Unfolding) where
         next : ℕ
         next = made.at + (1 + numbers (term_of x.value.now))
 
-        here : (c ≡ true) × Stuck (told made.context) (defined made.context) no_name (1 + made.at) (term_of x.value.now) → Definitions_stuck (integer_at types) entry [] (flat_tops 0 (map named_term ds))
-        here w = kw (subst (λ z. Definitions_stuck (integer_at types) entry (defined made.context) (flat_tops made.at (map named_term z))) (sym (one_more ds i d lt)) (stuck_definition (sym (flag ∙ f next i d lt) ∙ w.0) (subst (λ z. Stuck (integer_at z) (defined made.context) no_name (1 + made.at) (term_of x.value.now)) ts w.1)))
+        here : (c ≡ true) × Stuck (told made.context) (defined made.context) nothing_seen (1 + made.at) (term_of x.value.now) → Definitions_stuck (integer_at types) entry [] (flat_tops 0 (map named_term ds))
+        here w = kw (subst (λ z. Definitions_stuck (integer_at types) entry (defined made.context) (flat_tops made.at (map named_term z))) (sym (one_more ds i d lt)) (stuck_definition (sym (flag ∙ f next i d lt) ∙ w.0) (subst (λ z. Stuck (integer_at z) (defined made.context) nothing_seen (1 + made.at) (term_of x.value.now)) ts w.1)))
 
 -- ---- the entry
 
@@ -259,9 +259,6 @@ module _ (types : List IntType) (ds : List FlatTop) (entry : ℕ) (sorts : List 
       here (not_known is) = no_entry du is
       here (stuck_there {f = f} is w) = in_entry du is laid (subst (λ z. Stuck_runs (integer_at z) (defined made.context) (listed (knowns (map known_of g.arguments.now))) f) ts (subst (λ z. Stuck_runs (told made.context) (defined made.context) z f) (sym (listed_knowns (map known_of g.arguments.now))) w))
       here (no_data_there {n' = n'} {bs = cs} {f = f} {s = s} is a lacks) = no_result du is laid (application_of types made g.arguments.now f m2.next n' cs s ts a) lacks
-
-  pub whole_err : (r : Refusal) → r ≡ Memory → Unfolds_to (integer_at types) ds entry sorts (Err r)
-  whole_err r m = no_program (only_memory m)
 
   pub whole_ungiven : (count n n' : ℕ) (r : Refusal) → Given_to count n n' (Err r) → Unfolds_to (integer_at types) ds entry sorts (Err r)
   whole_ungiven count n n' _ not_given = no_program no_memory

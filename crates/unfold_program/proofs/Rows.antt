@@ -75,34 +75,34 @@ module _ {c : Context} {sc : Scope} {lo : ℕ} {e : FlatTerm} {n : ℕ} where
   }
 
 module _ (c : Context) (row : Held_row) (l : LetTree) (old new : Unfolding) where
-  pub let_ok : (first value : ℕ) (mid : Unfolding) (r : Walked) (inner : Bor Held_scope) → first ≡ row.at + 1 → value ≡ first + pattern_numbers (pattern_of l.pat) → Unfolded c (scope_of row.scope.now) value (term_of l.value) old mid (Ok r) → Bound_to (pattern_of l.pat) (known_of r.known) (scope_of row.scope.now) mid.next (steps_of mid) (steps_of new) new.next (Ok inner) → Row_unfolded c row (row_of l ∷ []) old new (Ok (record { scope = inner; at = r.at }))
+  pub let_ok : (first value : ℕ) (mid : Unfolding) (r : Walked) (inner : Held_scope) → first ≡ row.at + 1 → value ≡ first + pattern_numbers (pattern_of l.pat) → Unfolded c (scope_of row.scope) value (term_of l.value) old mid (Ok r) → Bound_to (pattern_of l.pat) (known_of r.known) (scope_of row.scope) mid.next (steps_of mid) (steps_of new) new.next (Ok inner) → Row_unfolded c row (row_of l ∷ []) old new (Ok (record { scope = inner; at = r.at }))
   unfolding lets
-  let_ok first value mid r inner q q' (unfolded bs g u h) (answered es k b) = row_unfolded (bs ++ es) (grown (steps_of old) (steps_of mid) (steps_of new) bs es g k) (λ body. subst (λ (z : Row). Leads c (scope_of row.scope.now) row.at (Let z.0 z.1 body) old.next (bs ++ es) (scope_of inner.now) r.at body new.next) (sym (row_is l)) (one body))
+  let_ok first value mid r inner q q' (unfolded bs g u h) (answered es k b) = row_unfolded (bs ++ es) (grown (steps_of old) (steps_of mid) (steps_of new) bs es g k) (λ body. subst (λ (z : Row). Leads c (scope_of row.scope) row.at (Let z.0 z.1 body) old.next (bs ++ es) (scope_of inner) r.at body new.next) (sym (row_is l)) (one body))
     where
       this : FlatTerm → FlatTerm
       this body = Let (record { sizes = l.sizes.now; parameters = parameters l.heads.now; is_function = l.is_function; pattern = pattern_of l.pat }) (term_of l.value) body
 
-      one : (body : FlatTerm) → Leads c (scope_of row.scope.now) row.at (this body) old.next (bs ++ es) (scope_of inner.now) r.at body new.next
+      one : (body : FlatTerm) → Leads c (scope_of row.scope) row.at (this body) old.next (bs ++ es) (scope_of inner) r.at body new.next
       one body = record {
-        unfolds = λ cs s m v. subst (λ z. Unfolds (told c) (defined c) (scope_of row.scope.now) row.at (this body) old.next z s m) (sym (append_assoc bs es cs)) (u_let (moved c (omega (arith, q, q')) u) (b _) (moved c (omega (arith, q, q', h)) v));
+        unfolds = λ cs s m v. subst (λ z. Unfolds (told c) (defined c) (scope_of row.scope) row.at (this body) old.next z s m) (sym (append_assoc bs es cs)) (u_let (moved c (omega (arith, q, q')) u) (b _) (moved c (omega (arith, q, q', h)) v));
         stuck = λ w. stuck_behind (moved c (omega (arith, q, q')) u) (mid.next, es, new.next, b _) (stuck_at c (omega (arith, q, q', h)) w);
         behind = omega (arith, q, q', h);
       }
 
   -- one let that is stuck is so whatever stands behind it
-  one_stuck : ((body : FlatTerm) → Stuck (told c) (defined c) (scope_of row.scope.now) row.at (Let (record { sizes = l.sizes.now; parameters = parameters l.heads.now; is_function = l.is_function; pattern = pattern_of l.pat }) (term_of l.value) body)) → (body : FlatTerm) → Stuck (told c) (defined c) (scope_of row.scope.now) row.at (lets (row_of l ∷ []) body)
+  one_stuck : ((body : FlatTerm) → Stuck (told c) (defined c) (scope_of row.scope) row.at (Let (record { sizes = l.sizes.now; parameters = parameters l.heads.now; is_function = l.is_function; pattern = pattern_of l.pat }) (term_of l.value) body)) → (body : FlatTerm) → Stuck (told c) (defined c) (scope_of row.scope) row.at (lets (row_of l ∷ []) body)
   unfolding lets
-  one_stuck f body = subst (λ (z : Row). Stuck (told c) (defined c) (scope_of row.scope.now) row.at (Let z.0 z.1 body)) (sym (row_is l)) (f body)
+  one_stuck f body = subst (λ (z : Row). Stuck (told c) (defined c) (scope_of row.scope) row.at (Let z.0 z.1 body)) (sym (row_is l)) (f body)
 
-  pub let_value_err : (first value : ℕ) (r : Refusal) → first ≡ row.at + 1 → value ≡ first + pattern_numbers (pattern_of l.pat) → Unfolded c (scope_of row.scope.now) value (term_of l.value) old new (Err r) → Row_unfolded c row (row_of l ∷ []) old new (Err r)
+  pub let_value_err : (first value : ℕ) (r : Refusal) → first ≡ row.at + 1 → value ≡ first + pattern_numbers (pattern_of l.pat) → Unfolded c (scope_of row.scope) value (term_of l.value) old new (Err r) → Row_unfolded c row (row_of l ∷ []) old new (Err r)
   let_value_err first value r q q' (refused x) = row_refused (refused_as (λ w. one_stuck (λ body. stuck_value (stuck_at c (omega (arith, q, q')) w))) x)
 
-  pub let_err : (first value : ℕ) (mid : Unfolding) (v : Walked) (r : Refusal) → first ≡ row.at + 1 → value ≡ first + pattern_numbers (pattern_of l.pat) → Unfolded c (scope_of row.scope.now) value (term_of l.value) old mid (Ok v) → Bound_to (pattern_of l.pat) (known_of v.known) (scope_of row.scope.now) mid.next (steps_of mid) (steps_of new) new.next (Err r) → Row_unfolded c row (row_of l ∷ []) old new (Err r)
+  pub let_err : (first value : ℕ) (mid : Unfolding) (v : Walked) (r : Refusal) → first ≡ row.at + 1 → value ≡ first + pattern_numbers (pattern_of l.pat) → Unfolded c (scope_of row.scope) value (term_of l.value) old mid (Ok v) → Bound_to (pattern_of l.pat) (known_of v.known) (scope_of row.scope) mid.next (steps_of mid) (steps_of new) new.next (Err r) → Row_unfolded c row (row_of l ∷ []) old new (Err r)
   let_err first value mid v r q q' (unfolded bs g u h) (unanswered x) = row_refused (refused_as (λ lacks. one_stuck (λ body. no_pattern_of (moved c (omega (arith, q, q')) u) lacks)) x)
 
 -- how far a row has come, whatever stands behind it
 pub data Row_leads (c : Context) (row : Held_row) (ls : List LetTree) (old now : Unfolding) (at : Held_row) (i : ℕ) : Type 0 where
-  row_leads : (bs : Bindings) → steps_of now ≡ steps_of old ++ bs → ((body : FlatTerm) → Leads c (scope_of row.scope.now) row.at (lets (map row_of ls) body) old.next bs (scope_of at.scope.now) at.at (lets (map row_of (drop i ls)) body) now.next) → Row_leads c row ls old now at i
+  row_leads : (bs : Bindings) → steps_of now ≡ steps_of old ++ bs → ((body : FlatTerm) → Leads c (scope_of row.scope) row.at (lets (map row_of ls) body) old.next bs (scope_of at.scope) at.at (lets (map row_of (drop i ls)) body) now.next) → Row_leads c row ls old now at i
 
 module _ (c : Context) (row : Held_row) (ls : List LetTree) (old : Unfolding) where
   pub row_start : Row_leads c row ls old old row 0
@@ -112,43 +112,43 @@ module _ (c : Context) (row : Held_row) (ls : List LetTree) (old : Unfolding) wh
   unfolding lets
   row_more now new at at' i d lt (row_leads bs g f) (row_unfolded cs g' k) =
       row_leads (bs ++ cs) (grown (steps_of old) (steps_of now) (steps_of new) bs cs g g')
-      (λ body. leads_on (subst (λ z. Leads c (scope_of row.scope.now) row.at (lets (map row_of ls) body) old.next bs (scope_of at.scope.now) at.at (lets (map row_of z) body) now.next) (one_more ls i d lt) (f body)) (k (lets (map row_of (drop (i + 1) ls)) body)))
+      (λ body. leads_on (subst (λ z. Leads c (scope_of row.scope) row.at (lets (map row_of ls) body) old.next bs (scope_of at.scope) at.at (lets (map row_of z) body) now.next) (one_more ls i d lt) (f body)) (k (lets (map row_of (drop (i + 1) ls)) body)))
 
   pub row_done : (now : Unfolding) (at : Held_row) (i : ℕ) → length ls ≤ i → Row_leads c row ls old now at i → Row_unfolded c row (map row_of ls) old now (Ok at)
   unfolding lets
-  row_done now at i le (row_leads bs g f) = row_unfolded bs g (λ body. subst (λ z. Leads c (scope_of row.scope.now) row.at (lets (map row_of ls) body) old.next bs (scope_of at.scope.now) at.at (lets (map row_of z) body) now.next) (drop_end i ls le) (f body))
+  row_done now at i le (row_leads bs g f) = row_unfolded bs g (λ body. subst (λ z. Leads c (scope_of row.scope) row.at (lets (map row_of ls) body) old.next bs (scope_of at.scope) at.at (lets (map row_of z) body) now.next) (drop_end i ls le) (f body))
 
   pub row_err : (now new : Unfolding) (at : Held_row) (i : ℕ) (d : LetTree) (r : Refusal) → i < length ls → Row_leads c row ls old now at i → Row_unfolded c at (row_of (get_or ls i d) ∷ []) now new (Err r) → Row_unfolded c row (map row_of ls) old new (Err r)
   unfolding lets
-  row_err now new at i d r lt (row_leads bs g f) (row_refused x) = row_refused (refused_as (λ w body. (f body).stuck (subst (λ z. Stuck (told c) (defined c) (scope_of at.scope.now) at.at (lets (map row_of z) body)) (sym (one_more ls i d lt)) (w (lets (map row_of (drop (i + 1) ls)) body)))) x)
+  row_err now new at i d r lt (row_leads bs g f) (row_refused x) = row_refused (refused_as (λ w body. (f body).stuck (subst (λ z. Stuck (told c) (defined c) (scope_of at.scope) at.at (lets (map row_of z) body)) (sym (one_more ls i d lt)) (w (lets (map row_of (drop (i + 1) ls)) body)))) x)
 
   -- the next let
   module _ (now new : Unfolding) (at : Held_row) (i : ℕ) (d : LetTree) (inside value : ℕ) (lt : i < length ls) (before : Row_leads c row ls old now at i) (q : inside ≡ at.at + 1) (q' : value ≡ inside + pattern_numbers (pattern_of (get_or ls i d).pat)) where
-    pub row_next : (mid : Unfolding) (r : Walked) (inner : Bor Held_scope) → Unfolded c (scope_of at.scope.now) value (term_of (get_or ls i d).value) now mid (Ok r) → Bound_to (pattern_of (get_or ls i d).pat) (known_of r.known) (scope_of at.scope.now) mid.next (steps_of mid) (steps_of new) new.next (Ok inner) → Row_leads c row ls old new (record { scope = inner; at = r.at }) (i + 1)
+    pub row_next : (mid : Unfolding) (r : Walked) (inner : Held_scope) → Unfolded c (scope_of at.scope) value (term_of (get_or ls i d).value) now mid (Ok r) → Bound_to (pattern_of (get_or ls i d).pat) (known_of r.known) (scope_of at.scope) mid.next (steps_of mid) (steps_of new) new.next (Ok inner) → Row_leads c row ls old new (record { scope = inner; at = r.at }) (i + 1)
     row_next mid r inner u b = row_more now new at (record { scope = inner; at = r.at }) i d lt before (let_ok c at (get_or ls i d) now new inside value mid r inner q q' u b)
 
-    pub row_value_err : (r : Refusal) → Unfolded c (scope_of at.scope.now) value (term_of (get_or ls i d).value) now new (Err r) → Row_unfolded c row (map row_of ls) old new (Err r)
+    pub row_value_err : (r : Refusal) → Unfolded c (scope_of at.scope) value (term_of (get_or ls i d).value) now new (Err r) → Row_unfolded c row (map row_of ls) old new (Err r)
     row_value_err r u = row_err now new at i d r lt before (let_value_err c at (get_or ls i d) now new inside value r q q' u)
 
-    pub row_bind_err : (mid : Unfolding) (v : Walked) (r : Refusal) → Unfolded c (scope_of at.scope.now) value (term_of (get_or ls i d).value) now mid (Ok v) → Bound_to (pattern_of (get_or ls i d).pat) (known_of v.known) (scope_of at.scope.now) mid.next (steps_of mid) (steps_of new) new.next (Err r) → Row_unfolded c row (map row_of ls) old new (Err r)
+    pub row_bind_err : (mid : Unfolding) (v : Walked) (r : Refusal) → Unfolded c (scope_of at.scope) value (term_of (get_or ls i d).value) now mid (Ok v) → Bound_to (pattern_of (get_or ls i d).pat) (known_of v.known) (scope_of at.scope) mid.next (steps_of mid) (steps_of new) new.next (Err r) → Row_unfolded c row (map row_of ls) old new (Err r)
     row_bind_err mid v r u b = row_err now new at i d r lt before (let_err c at (get_or ls i d) now new inside value mid v r q q' u b)
 
 -- how far rows behind each other have come
 pub data Lets_lead (c : Context) (sc : Scope) (lo : ℕ) (e : FlatTerm) (old now : Unfolding) (row : Held_row) (rest : Exp) : Type 0 where
-  lets_lead : (bs : Bindings) → steps_of now ≡ steps_of old ++ bs → Leads c sc lo e old.next bs (scope_of row.scope.now) row.at (term_of rest) now.next → Lets_lead c sc lo e old now row rest
+  lets_lead : (bs : Bindings) → steps_of now ≡ steps_of old ++ bs → Leads c sc lo e old.next bs (scope_of row.scope) row.at (term_of rest) now.next → Lets_lead c sc lo e old now row rest
 
 module _ (c : Context) (lo : ℕ) (old : Unfolding) where
-  pub lets_start : (sc : Bor Held_scope) (e : Exp) → Lets_lead c (scope_of sc.now) lo (term_of e) old old (record { scope = sc; at = lo }) e
+  pub lets_start : (sc : Held_scope) (e : Exp) → Lets_lead c (scope_of sc) lo (term_of e) old old (record { scope = sc; at = lo }) e
   lets_start sc e = lets_lead [] (not_grown (steps_of old) (steps_of old) refl) leads_start
 
   module _ (sc : Scope) (e : FlatTerm) where
     pub lets_more : (now new : Unfolding) (row row' : Held_row) (rest : Exp) (ls : Bor (List LetTree)) (b : Bor Exp) → Lets_lead c sc lo e old now row rest → rest.form ≡ form.Lets ls b → Row_unfolded c row (map row_of ls.now) now new (Ok row') → Lets_lead c sc lo e old new row' b.now
     lets_more now new row row' rest ls b (lets_lead bs g a) is (row_unfolded cs g' k) =
-        lets_lead (bs ++ cs) (grown (steps_of old) (steps_of now) (steps_of new) bs cs g g') (leads_on (subst (λ z. Leads c sc lo e old.next bs (scope_of row.scope.now) row.at z now.next) (term_lets rest ls b is) a) (k (term_of b.now)))
+        lets_lead (bs ++ cs) (grown (steps_of old) (steps_of now) (steps_of new) bs cs g g') (leads_on (subst (λ z. Leads c sc lo e old.next bs (scope_of row.scope) row.at z now.next) (term_lets rest ls b is) a) (k (term_of b.now)))
 
-    pub lets_done : (now new : Unfolding) (row : Held_row) (rest : Exp) (r : Result Walked Refusal) → Lets_lead c sc lo e old now row rest → Unfolded c (scope_of row.scope.now) row.at (term_of rest) now new r → Unfolded c sc lo e old new r
+    pub lets_done : (now new : Unfolding) (row : Held_row) (rest : Exp) (r : Result Walked Refusal) → Lets_lead c sc lo e old now row rest → Unfolded c (scope_of row.scope) row.at (term_of rest) now new r → Unfolded c sc lo e old new r
     lets_done now new row rest _ (lets_lead bs g a) (unfolded {r = r} cs g' u h) = unfolded (bs ++ cs) (grown (steps_of old) (steps_of now) (steps_of new) bs cs g g') (a.unfolds cs (known_of r.known) new.next u) (omega (arith, h, a.behind))
     lets_done now new row rest _ (lets_lead bs g a) (refused x) = refused (refused_as a.stuck x)
 
     pub lets_err : (now new : Unfolding) (row : Held_row) (rest : Exp) (ls : Bor (List LetTree)) (b : Bor Exp) (r : Refusal) → Lets_lead c sc lo e old now row rest → rest.form ≡ form.Lets ls b → Row_unfolded c row (map row_of ls.now) now new (Err r) → Unfolded c sc lo e old new (Err r)
-    lets_err now new row rest ls b r (lets_lead bs g a) is (row_refused x) = refused (refused_as (λ w. a.stuck (subst (Stuck (told c) (defined c) (scope_of row.scope.now) row.at) (sym (term_lets rest ls b is)) (w (term_of b.now)))) x)
+    lets_err now new row rest ls b r (lets_lead bs g a) is (row_refused x) = refused (refused_as (λ w. a.stuck (subst (Stuck (told c) (defined c) (scope_of row.scope) row.at) (sym (term_lets rest ls b is)) (w (term_of b.now)))) x)

@@ -15,6 +15,8 @@ use Rattle.unfold.specs.Unfolding.{Bindings, a_body, a_job, a_waits, data_known,
 use Rattle.unfold.specs.declared.known.Field.{Field}
 use Rattle.unfold.specs.declared.known.Function.{Function}
 use Rattle.unfold.specs.declared.known.Known.{Known as Held_known}
+use Rattle.unfold.specs.declared.known.Names.{Names as Held_names}
+use Rattle.unfold.specs.declared.known.Entered.{Entered as Held_entered}
 use Rattle.unfold.specs.declared.known.KnownForm.{KnownForm, KnownForm-F, out-KnownForm, roll-KnownForm, roll-out-KnownForm}
 use Rattle.unfold.specs.declared.known.KnownForm.TheVariants as form
 use Rattle.unfold.specs.declared.known.Scope.{Scope as Held_scope}
@@ -36,7 +38,7 @@ use Rattle.unfold_parts.specs.declared.refusal.Refusal.TheVariants.{Lost, Memory
 use Rattle.unfold_parts.specs.declared.steps.Unfolding.{Unfolding}
 use Rattle.unfold_program.specs.declared.walked.Context.{Context}
 use Rattle.unfold_program.specs.declared.walked.Walked.{Walked}
-use Rattle.unfold_program.specs.Answers.{Unfolded, unfolded, refused, Applied, applied, not_applied, All_applied, all_applied, not_all_applied, Job_applied, Argued, argued, not_argued, written, defined, told}
+use Rattle.unfold_program.specs.Answers.{Unfolded, unfolded, refused, Applied, applied, not_applied, All_applied, all_applied, not_all_applied, Job_applied, Argued, argued, not_argued, scope_in, written, defined, told}
 use Rattle.unfold_program.proofs.Growing.{grown}
 use Rattle.unfold_parts.specs.Unsized.{Applies, Applies_all, Binds, Stuck, Stuck_run, Stuck_runs}
 
@@ -44,7 +46,7 @@ back : (f g : KnownForm) → out-KnownForm f ≡ out-KnownForm g → f ≡ g
 back f g q = sym (roll-out-KnownForm f) ∙ ap roll-KnownForm q ∙ roll-out-KnownForm g
 
 abbrev Layer : Type 0
-Layer = KnownForm-F KnownForm Held_scope Field Function Held_known
+Layer = KnownForm-F Held_entered KnownForm Held_names Field Function Held_known
 
 module _ (c : Context) (s : Known) (old new : Unfolding) (h : Held_known) where
   no_function_known : (f : Known) → known_of h ≡ f → is_function f ≡ false → Applied c (known_of h) s old new (Err Lost)
@@ -127,43 +129,43 @@ module _ (c : Context) (p : Primitive) (at : Place) (ss : List Known) (old m1 : 
 
 -- a function with one argument more
 module _ (c : Context) (s : Known) (old : Unfolding) (h : Held_known) (f : Bor Function) (is : h.form ≡ form.Function f) where
-  as_function : (new : Unfolding) (r : Result Held_known Refusal) → Applied c (Function_known (patterns (map pattern_of f.now.parameters.now)) (term_of f.now.body.now) f.now.first (scope_of f.now.scope.now)) s old new r → Applied c (known_of h) s old new r
+  as_function : (new : Unfolding) (r : Result Held_known Refusal) → Applied c (Function_known (patterns (map pattern_of f.now.parameters.now)) (term_of f.now.body.now) f.now.first (scope_in f.now)) s old new r → Applied c (known_of h) s old new r
   as_function new r a = subst (λ z. Applied c z s old new r) (sym (known_function h f is)) a
 
   pub apply_unargued : (mid new : Unfolding) (r : Refusal) → Argued f.now s old mid (Err r) → Applied c (known_of h) s old new (Err r)
   apply_unargued mid new r (not_argued x) = subst (λ z. Applied c z s old new (Err r)) (function_is f.now ∙ sym (known_function h f is)) (not_applied (refused_as (λ w. w (told c) (defined c)) x))
 
-  module _ (inner : Bor Held_scope) (mid : Unfolding) where
+  module _ (inner : Held_scope) (mid : Unfolding) where
     -- it waits for further ones
-    pub apply_waits : (qs : List Pat) (r : Result Held_known Refusal) → Argued f.now s old mid (Ok inner) → 1 < length f.now.parameters.now → qs ≡ drop 1 f.now.parameters.now → IfOk r (λ k. known_of k ≡ Function_known (patterns (map pattern_of qs)) (term_of f.now.body.now) f.now.first (scope_of inner.now)) → IfErr r (λ x. x ≡ Memory) → Applied c (known_of h) s old mid r
+    pub apply_waits : (qs : List Pat) (r : Result Held_known Refusal) → Argued f.now s old mid (Ok inner) → 1 < length f.now.parameters.now → qs ≡ drop 1 f.now.parameters.now → IfOk r (λ k. known_of k ≡ Function_known (patterns (map pattern_of qs)) (term_of f.now.body.now) f.now.first (scope_of inner)) → IfErr r (λ x. x ≡ Memory) → Applied c (known_of h) s old mid r
     unfolding patterns
     apply_waits qs (Err x) a some q e m = not_applied (only_memory m)
-    apply_waits qs (Ok k) (argued d bs nonempty g b) some q e m = as_function mid (Ok k) (applied bs g (subst (λ z. Applies (told c) (defined c) (Function_known (patterns (map pattern_of f.now.parameters.now)) (term_of f.now.body.now) f.now.first (scope_of f.now.scope.now)) s old.next bs z mid.next) (sym (e ∙ ap (λ z. Function_known (patterns (map pattern_of z)) (term_of f.now.body.now) f.now.first (scope_of inner.now)) q)) (waits f.now.parameters.now some b)))
+    apply_waits qs (Ok k) (argued d bs nonempty g b) some q e m = as_function mid (Ok k) (applied bs g (subst (λ z. Applies (told c) (defined c) (Function_known (patterns (map pattern_of f.now.parameters.now)) (term_of f.now.body.now) f.now.first (scope_in f.now)) s old.next bs z mid.next) (sym (e ∙ ap (λ z. Function_known (patterns (map pattern_of z)) (term_of f.now.body.now) f.now.first (scope_of inner)) q)) (waits f.now.parameters.now some b)))
       where
-        waits : (ps : List Pat) → 1 < length ps → Binds (pattern_of (get_or ps 0 d)) s (scope_of f.now.scope.now) old.next bs (scope_of inner.now) mid.next → Applies (told c) (defined c) (Function_known (patterns (map pattern_of ps)) (term_of f.now.body.now) f.now.first (scope_of f.now.scope.now)) s old.next bs (Function_known (patterns (map pattern_of (drop 1 ps))) (term_of f.now.body.now) f.now.first (scope_of inner.now)) mid.next
+        waits : (ps : List Pat) → 1 < length ps → Binds (pattern_of (get_or ps 0 d)) s (scope_in f.now) old.next bs (scope_of inner) mid.next → Applies (told c) (defined c) (Function_known (patterns (map pattern_of ps)) (term_of f.now.body.now) f.now.first (scope_in f.now)) s old.next bs (Function_known (patterns (map pattern_of (drop 1 ps))) (term_of f.now.body.now) f.now.first (scope_of inner)) mid.next
         waits [] some b = absurd (omega (arith, some))
         waits (p ∷ []) some b = absurd (omega (arith, some))
         waits (p ∷ q ∷ ps) some b = a_waits (b _)
 
     -- or its body is unfolded
-    pub apply_runs : (new : Unfolding) (r : Walked) → Argued f.now s old mid (Ok inner) → length f.now.parameters.now ≤ 1 → Unfolded c (scope_of inner.now) f.now.first (term_of f.now.body.now) mid new (Ok r) → Applied c (known_of h) s old new (Ok r.known)
+    pub apply_runs : (new : Unfolding) (r : Walked) → Argued f.now s old mid (Ok inner) → length f.now.parameters.now ≤ 1 → Unfolded c (scope_of inner) f.now.first (term_of f.now.body.now) mid new (Ok r) → Applied c (known_of h) s old new (Ok r.known)
     unfolding patterns
     apply_runs new r (argued d es nonempty ge b) few (unfolded bs g u k) = as_function new (Ok r.known) (applied (es ++ bs) (grown (steps_of old) (steps_of mid) (steps_of new) es bs ge g) (runs f.now.parameters.now nonempty few b))
       where
-        runs : (ps : List Pat) → (length ps ≡ 0 → ⊥) → length ps ≤ 1 → Binds (pattern_of (get_or ps 0 d)) s (scope_of f.now.scope.now) old.next es (scope_of inner.now) mid.next → Applies (told c) (defined c) (Function_known (patterns (map pattern_of ps)) (term_of f.now.body.now) f.now.first (scope_of f.now.scope.now)) s old.next (es ++ bs) (known_of r.known) new.next
+        runs : (ps : List Pat) → (length ps ≡ 0 → ⊥) → length ps ≤ 1 → Binds (pattern_of (get_or ps 0 d)) s (scope_in f.now) old.next es (scope_of inner) mid.next → Applies (told c) (defined c) (Function_known (patterns (map pattern_of ps)) (term_of f.now.body.now) f.now.first (scope_in f.now)) s old.next (es ++ bs) (known_of r.known) new.next
         runs [] nonempty few b = absurd (nonempty refl)
         runs (p ∷ []) nonempty few b = a_body (b _) u
         runs (p ∷ q ∷ ps) nonempty few b = absurd (omega (arith, few))
 
-    pub apply_stuck : (new : Unfolding) (r : Refusal) → Argued f.now s old mid (Ok inner) → length f.now.parameters.now ≤ 1 → Unfolded c (scope_of inner.now) f.now.first (term_of f.now.body.now) mid new (Err r) → Applied c (known_of h) s old new (Err r)
+    pub apply_stuck : (new : Unfolding) (r : Refusal) → Argued f.now s old mid (Ok inner) → length f.now.parameters.now ≤ 1 → Unfolded c (scope_of inner) f.now.first (term_of f.now.body.now) mid new (Err r) → Applied c (known_of h) s old new (Err r)
     unfolding patterns
     apply_stuck new r (argued d es nonempty ge b) few (refused x) = as_function new (Err r) (not_applied (refused_as (λ w. stuck_there f.now.parameters.now nonempty few b w) x))
       where
-        stuck_there : (ps : List Pat) → (length ps ≡ 0 → ⊥) → length ps ≤ 1 → Binds (pattern_of (get_or ps 0 d)) s (scope_of f.now.scope.now) old.next es (scope_of inner.now) mid.next → Stuck (told c) (defined c) (scope_of inner.now) f.now.first (term_of f.now.body.now) → Stuck_run (told c) (defined c) (Function_known (patterns (map pattern_of ps)) (term_of f.now.body.now) f.now.first (scope_of f.now.scope.now)) s
+        stuck_there : (ps : List Pat) → (length ps ≡ 0 → ⊥) → length ps ≤ 1 → Binds (pattern_of (get_or ps 0 d)) s (scope_in f.now) old.next es (scope_of inner) mid.next → Stuck (told c) (defined c) (scope_of inner) f.now.first (term_of f.now.body.now) → Stuck_run (told c) (defined c) (Function_known (patterns (map pattern_of ps)) (term_of f.now.body.now) f.now.first (scope_in f.now)) s
         stuck_there [] nonempty few b w = absurd (nonempty refl)
         stuck_there (p ∷ []) nonempty few b w = stuck_result (old.next, es, mid.next, b _) w
         stuck_there (p ∷ q ∷ ps) nonempty few b w = absurd (omega (arith, few))
 
-    pub apply_walks : (new : Unfolding) (r : Result (Unit {0}) Refusal) (w : Walked) → Argued f.now s old mid (Ok inner) → length f.now.parameters.now ≤ 1 → Unfolded c (scope_of inner.now) f.now.first (term_of f.now.body.now) mid new (written r w) → Applied c (known_of h) s old new (written r w.known)
+    pub apply_walks : (new : Unfolding) (r : Result (Unit {0}) Refusal) (w : Walked) → Argued f.now s old mid (Ok inner) → length f.now.parameters.now ≤ 1 → Unfolded c (scope_of inner) f.now.first (term_of f.now.body.now) mid new (written r w) → Applied c (known_of h) s old new (written r w.known)
     apply_walks new (Ok u) w a few h = apply_runs new w a few h
     apply_walks new (Err x) w a few h = apply_stuck new x a few h

@@ -1,6 +1,5 @@
 -- What the calls of the walk answer. Where one is lost, unfolding is stuck; want of memory says nothing.
 use Rattle.std.specs.Prelude.{◌≡◌, ℕ, ◌+◌, ◌++◌, List, [], ◌∷◌, map, length, get_or, Bool, true, false, Option, Some, None, Result, Ok, Err}
-use Rattle.std.specs.Borrow.{Bor}
 use Rattle.fut_scalar.specs.declared.place.BindId.{BindId}
 use Rattle.fut_scalar.specs.declared.place.Place.{Place}
 use Rattle.fut_scalar.specs.declared.scalar.IntType.{IntType}
@@ -20,8 +19,8 @@ use Rattle.fut_blocks.specs.declared.block.Atom.{Atom}
 use Rattle.fut_blocks.specs.Numbered.{Upward}
 use Rattle.fut_blocks.specs.Plain as plain
 use Rattle.fut_blocks.specs.Plain.{Action, Body, body_of}
-use Rattle.unfold.specs.Held.{function_of, known_of, scope_of}
-use Rattle.unfold.specs.Knowns.{Function_known, Known, Knowns, Primitive_known, Scalar_known, Scope, Tops, listed, name_and}
+use Rattle.unfold.specs.Held.{entered_of, function_of, known_of, names_of, scope_of}
+use Rattle.unfold.specs.Knowns.{Function_known, Known, Knowns, Primitive_known, Scalar_known, Scope, Tops, listed, name_and, seeing}
 use Rattle.unfold.specs.Shapes.{Laid}
 use Rattle.unfold.specs.Stuck.{No_data, No_operation, No_scalar, Not_bound}
 use Rattle.unfold.specs.Unfolding.{Bindings, Packs, constant, named, names, step}
@@ -82,7 +81,7 @@ abbrev pub told : Context → ℕ → IntType
 told c = integer_at c.types.now
 
 abbrev pub defined : Context → Tops
-defined c = tops_of c.tops
+defined c = tops_of c.tops.value
 
 -- the steps grew by those of the term, and so did the names
 pub data Unfolded (c : Context) (sc : Scope) (lo : ℕ) (t : FlatTerm) (old new : Unfolding) : Result Walked Refusal → Type 0 where
@@ -130,9 +129,13 @@ pub data Lambda_known (sc : Scope) (inside : ℕ) (ps : Patterns Ref BindId) (e 
   lambda_known : {r : Walked} → known_of r.known ≡ Function_known ps e (inside + all_pattern_numbers ps) sc → r.at ≡ inside + all_pattern_numbers ps + numbers e → Lambda_known sc inside ps e (Ok r)
   no_lambda : Lambda_known sc inside ps e (Err Memory)
 
+-- what a function captured
+abbrev pub scope_in : Function → Scope
+scope_in f = seeing (names_of f.names.now) (entered_of f.entered.now)
+
 -- the names around the body of a function whose first parameter is bound to an argument
-pub data Argued (f : Function) (s : Known) (old new : Unfolding) : Result (Bor Held_scope) Refusal → Type 0 where
-  argued : {inner : Bor Held_scope} (d : Pat) (bs : Bindings) → (length f.parameters.now ≡ 0 → ⊥) → steps_of new ≡ steps_of old ++ bs → Binds (pattern_of (get_or f.parameters.now 0 d)) s (scope_of f.scope.now) old.next bs (scope_of inner.now) new.next → Argued f s old new (Ok inner)
+pub data Argued (f : Function) (s : Known) (old new : Unfolding) : Result Held_scope Refusal → Type 0 where
+  argued : {inner : Held_scope} (d : Pat) (bs : Bindings) → (length f.parameters.now ≡ 0 → ⊥) → steps_of new ≡ steps_of old ++ bs → Binds (pattern_of (get_or f.parameters.now 0 d)) s (scope_in f) old.next bs (scope_of inner) new.next → Argued f s old new (Ok inner)
   not_argued : {r : Refusal} → Refused ((types : ℕ → IntType) (tops : Tops) → Stuck_run types tops (function_of f) s) r → Argued f s old new (Err r)
 
 -- a function applied to arguments, one after the other
@@ -230,8 +233,8 @@ pub data Entered_to (s : Known) (n next : ℕ) : Result Entered Refusal → Type
   not_entered : {r : Refusal} → Refused (No_data s) r → Entered_to s n next (Err r)
 
 -- the names of a turn, whose number has a name
-pub data Turn_bound_to (p : FlatPattern) (i : BindId) (y : ℕ) (sc : Scope) (s : Known) (old new : Unfolding) : Result (Bor Held_scope) Refusal → Type 0 where
-  turn_bound_to : {inner : Bor Held_scope} {inside : Scope} (bs : Bindings) → steps_of new ≡ steps_of old ++ bs → Binds p s sc old.next bs inside new.next → scope_of inner.now ≡ name_and i (named y) inside → Turn_bound_to p i y sc s old new (Ok inner)
+pub data Turn_bound_to (p : FlatPattern) (i : BindId) (y : ℕ) (sc : Scope) (s : Known) (old new : Unfolding) : Result Held_scope Refusal → Type 0 where
+  turn_bound_to : {inner : Held_scope} {inside : Scope} (bs : Bindings) → steps_of new ≡ steps_of old ++ bs → Binds p s sc old.next bs inside new.next → scope_of inner ≡ name_and i (named y) inside → Turn_bound_to p i y sc s old new (Ok inner)
   not_turn_bound : {r : Refusal} → Refused (Not_bound p s) r → Turn_bound_to p i y sc s old new (Err r)
 
 -- why there are no names of a turn for a row: the pattern of the loop has not the form of its value, or that of the row none of a
@@ -240,8 +243,8 @@ pub data No_row_names (p q : FlatPattern) (y : ℕ) (sc : Scope) (s : Known) : T
   no_value_names : Not_bound p s → No_row_names p q y sc s
   no_names_of_row : {inside : Scope} → Binds_to p s sc inside → Not_bound q (named y) → No_row_names p q y sc s
 
-pub data Row_bound_to (p q : FlatPattern) (y : ℕ) (sc : Scope) (s : Known) (old new : Unfolding) : Result (Bor Held_scope) Refusal → Type 0 where
-  row_bound_to : {inner : Bor Held_scope} {inside : Scope} {k : ℕ} (bs cs : Bindings) → steps_of new ≡ steps_of old ++ (bs ++ cs) → Binds p s sc old.next bs inside k → Binds q (named y) inside k cs (scope_of inner.now) new.next → Row_bound_to p q y sc s old new (Ok inner)
+pub data Row_bound_to (p q : FlatPattern) (y : ℕ) (sc : Scope) (s : Known) (old new : Unfolding) : Result Held_scope Refusal → Type 0 where
+  row_bound_to : {inner : Held_scope} {inside : Scope} {k : ℕ} (bs cs : Bindings) → steps_of new ≡ steps_of old ++ (bs ++ cs) → Binds p s sc old.next bs inside k → Binds q (named y) inside k cs (scope_of inner) new.next → Row_bound_to p q y sc s old new (Ok inner)
   not_row_bound : {r : Refusal} → Refused (No_row_names p q y sc s) r → Row_bound_to p q y sc s old new (Err r)
 
 -- A loop, once its first value is known: what it unfolds to in all, from where its first value was unfolded.
@@ -290,5 +293,5 @@ pub record Leads (c : Context) (sc : Scope) (lo : ℕ) (e : FlatTerm) (n : ℕ) 
 
 -- a row of lets, whatever stands behind it
 pub data Row_unfolded (c : Context) (before : Row) (ls : List erased.Row) (old new : Unfolding) : Result Row Refusal → Type 0 where
-  row_unfolded : {r : Row} (bs : Bindings) → steps_of new ≡ steps_of old ++ bs → ((body : FlatTerm) → Leads c (scope_of before.scope.now) before.at (lets ls body) old.next bs (scope_of r.scope.now) r.at body new.next) → Row_unfolded c before ls old new (Ok r)
-  row_refused : {r : Refusal} → Refused ((body : FlatTerm) → Stuck (told c) (defined c) (scope_of before.scope.now) before.at (lets ls body)) r → Row_unfolded c before ls old new (Err r)
+  row_unfolded : {r : Row} (bs : Bindings) → steps_of new ≡ steps_of old ++ bs → ((body : FlatTerm) → Leads c (scope_of before.scope) before.at (lets ls body) old.next bs (scope_of r.scope) r.at body new.next) → Row_unfolded c before ls old new (Ok r)
+  row_refused : {r : Refusal} → Refused ((body : FlatTerm) → Stuck (told c) (defined c) (scope_of before.scope) before.at (lets ls body)) r → Row_unfolded c before ls old new (Err r)

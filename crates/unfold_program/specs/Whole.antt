@@ -12,7 +12,7 @@ use Rattle.fut_blocks.specs.Meaning.{look}
 use Rattle.fut_blocks.specs.Numbered.{Upward}
 use Rattle.fut_blocks.specs.Plain.{body_of, lets}
 use Rattle.unfold.specs.Held.{known_of}
-use Rattle.unfold.specs.Knowns.{Known, knowns, no_name}
+use Rattle.unfold.specs.Knowns.{Known, knowns, nothing_seen}
 use Rattle.unfold.specs.Shapes.{All_laid, Laid, Scalar_shape, Shape, Shapes, no_shape, shape_and}
 use Rattle.unfold.specs.Stuck.{No_data}
 use Rattle.unfold.specs.Unfolding.{Bindings, names}
@@ -48,8 +48,8 @@ pub data Given_to (count n next : ℕ) : Result Given Refusal → Type 0 where
 -- one more definition, which is passed over where it is not reached
 pub data Defined_to (b : BindId) (e : FlatTerm) (reached : Bool) (before : Made) (old new : Unfolding) : Result Made Refusal → Type 0 where
   passed_over : {r : Made} → reached ≡ false → steps_of new ≡ steps_of old → new.next ≡ old.next → r.context.types.now ≡ before.context.types.now → defined r.context ≡ defined before.context → r.at ≡ before.at + (1 + numbers e) → Defined_to b e reached before old new (Ok r)
-  defined_to : {r : Made} {s : Known} (bs : Bindings) → reached ≡ true → steps_of new ≡ steps_of old ++ bs → Unfolds (told before.context) (defined before.context) no_name (1 + before.at) e old.next bs s new.next → r.context.types.now ≡ before.context.types.now → defined r.context ≡ (b.0, s) ∷ defined before.context → r.at ≡ before.at + (1 + numbers e) → Defined_to b e reached before old new (Ok r)
-  not_defined : {r : Refusal} → Refused ((reached ≡ true) × Stuck (told before.context) (defined before.context) no_name (1 + before.at) e) r → Defined_to b e reached before old new (Err r)
+  defined_to : {r : Made} {s : Known} (bs : Bindings) → reached ≡ true → steps_of new ≡ steps_of old ++ bs → Unfolds (told before.context) (defined before.context) nothing_seen (1 + before.at) e old.next bs s new.next → r.context.types.now ≡ before.context.types.now → defined r.context ≡ (b.0, s) ∷ defined before.context → r.at ≡ before.at + (1 + numbers e) → Defined_to b e reached before old new (Ok r)
+  not_defined : {r : Refusal} → Refused ((reached ≡ true) × Stuck (told before.context) (defined before.context) nothing_seen (1 + before.at) e) r → Defined_to b e reached before old new (Err r)
 
 -- the definitions that an entry reaches
 pub data Definitions_to (types : List IntType) (entry : ℕ) (ds : List FlatTop) (old new : Unfolding) : Result Made Refusal → Type 0 where

@@ -60,11 +60,11 @@ pub fn bind_turn<'a>(
     pat: &'a Pat<'a>,
     index: BindId,
     name: u32,
-    scope: &'a Scope<'a>,
+    scope: Scope<'a>,
     known: &Known<'a>,
     state: &mut Unfolding<'a>,
-) -> Result<&'a Scope<'a>, Refusal>
-    ensures { Turn_bound_to (pattern_of pat.now) index name (scope_of scope.now) (known_of known.now) state.old state.new result }
+) -> Result<Scope<'a>, Refusal>
+    ensures { Turn_bound_to (pattern_of pat.now) index name (scope_of scope.entry) (known_of known.now) state.old state.new result }
 {
     let inside = match bind(state, pat, *known, scope) {
         Ok(inside) => inside,
@@ -79,11 +79,11 @@ pub fn bind_row<'a>(
     pat: &'a Pat<'a>,
     row: &'a Pat<'a>,
     name: u32,
-    scope: &'a Scope<'a>,
+    scope: Scope<'a>,
     known: &Known<'a>,
     state: &mut Unfolding<'a>,
-) -> Result<&'a Scope<'a>, Refusal>
-    ensures { Row_bound_to (pattern_of pat.now) (pattern_of row.now) name (scope_of scope.now) (known_of known.now) state.old state.new result }
+) -> Result<Scope<'a>, Refusal>
+    ensures { Row_bound_to (pattern_of pat.now) (pattern_of row.now) name (scope_of scope.entry) (known_of known.now) state.old state.new result }
 {
     let inside = match bind(state, pat, *known, scope) {
         Ok(inside) => inside,

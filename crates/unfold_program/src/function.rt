@@ -18,16 +18,17 @@ pub fn function_known<'a>(
     parameters: &'a [Pat<'a>],
     body: &'a Exp<'a>,
     first: u32,
-    scope: &'a Scope<'a>,
+    scope: Scope<'a>,
 ) -> Result<Known<'a>, Refusal>
-    ensures ok { IfOk result (λ k. known_of k ≡ Function_known (patterns (map pattern_of parameters.now)) (term_of body.now) first (scope_of scope.now)) }
+    ensures ok { IfOk result (λ k. known_of k ≡ Function_known (patterns (map pattern_of parameters.now)) (term_of body.now) first (scope_of scope.entry)) }
     ensures err { IfErr result (λ r. r ≡ refusal.Memory) }
 {
     let function = Function {
         parameters,
         body,
         first,
-        scope,
+        names: scope.names,
+        entered: scope.entered,
     };
     match bump.try_alloc_slice_copy(&[function]) {
         Ok(cells) => {

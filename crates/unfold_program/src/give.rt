@@ -354,14 +354,14 @@ pub fn operated<'a>(
 #[inline(never)]
 pub fn used<'a>(
     tops: &Tops<'a>,
-    scope: &'a Scope<'a>,
+    scope: Scope<'a>,
     reference: Ref,
     at: u32,
     exp: &Exp<'a>,
     walked: &mut Walked<'a>,
 ) -> Result<(), Refusal>
     requires kept { Kept tops.now }
-    ensures { Use_known (tops_of tops.now) (scope_of scope.now) reference at exp.now (written result walked.new) }
+    ensures { Use_known (tops_of tops.now) (scope_of scope.entry) reference at exp.now (written result walked.new) }
 {
     match after_exp(at, exp) {
         Ok(next) => put(known_use(tops, scope, reference, exp.place), next, walked),
@@ -375,12 +375,16 @@ pub fn with_argument<'a>(
     state: &mut Unfolding<'a>,
     lambda: &Function<'a>,
     argument: &Known<'a>,
-) -> Result<&'a Scope<'a>, Refusal>
+) -> Result<Scope<'a>, Refusal>
     ensures { Argued lambda.now (known_of argument.now) state.old state.new result }
 {
     let params = lambda.parameters;
     if params.len() == 0 {
         return Err(Refusal::Lost);
     }
-    bind(state, &params[0], *argument, lambda.scope)
+    let scope = Scope {
+        names: lambda.names,
+        entered: lambda.entered,
+    };
+    bind(state, &params[0], *argument, scope)
 }

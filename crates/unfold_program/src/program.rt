@@ -3,8 +3,7 @@ ghost use Rattle.std.specs.Prelude.{◌≡◌, [], IfErr, IfOk, length, map};
 ghost use Rattle.fut_flat.specs.Erased.{term_of};
 ghost use Rattle.fut_meaning.specs.Flats.{flat_tops, named_terms};
 ghost use Rattle.unfold_reach.specs.Reach.{Reached, named_term};
-ghost use Rattle.unfold.specs.Held.{known_of, scope_of};
-ghost use Rattle.unfold.specs.Knowns.{no_name};
+ghost use Rattle.unfold.specs.Held.{known_of};
 ghost use Rattle.unfold_parts.specs.States.{steps_of};
 ghost use Rattle.unfold_parts.specs.Tables.{Kept, integer_at};
 ghost use Rattle.unfold_parts.specs.declared.refusal.Refusal.TheVariants as refusal;
@@ -19,8 +18,8 @@ use flat_numbers::{after, after_exp};
 use fut_blocks::{Atom, Program};
 use fut_flat::{Definition, Flat};
 use fut_scalar::{BindId, DataType, IntType, Scalar};
-use unfold::{Known, KnownForm, Scope};
-use unfold_parts::{Refusal, Tops, Unfolding, lay};
+use unfold::{Known, KnownForm};
+use unfold_parts::{Refusal, Tops, Unfolding, lay, nothing};
 use unfold_reach::{above, reached};
 
 /// What is known of some definitions, and the number of the next one.
@@ -83,31 +82,17 @@ fn unfold_from<'a>(
         Ok(flags) => flags,
         Err(_) => return Err(Refusal::Memory),
     };
-    let nothing = match nothing_known(state.bump) {
-        Ok(nothing) => nothing,
-        Err(refusal) => return Err(refusal),
+    let tops = match Box::new(state.bump, Tops::new(state.bump)) {
+        Ok(tops) => tops,
+        Err(_) => return Err(Refusal::Memory),
     };
     let context = Context {
-        tops: Tops::new(state.bump),
+        tops,
         types: integer_types,
     };
-    match unfold_definitions(context, entry, flags, nothing, flat.definitions, state) {
+    match unfold_definitions(context, entry, flags, flat.definitions, state) {
         Ok(made) => unfold_entry(&made.context, entry, given, types, state),
         Err(refusal) => Err(refusal),
-    }
-}
-
-#[tactic(auto, using(unfold::proofs::Mirror::scope_empty))]
-fn nothing_known<'a>(bump: &'a Bump) -> Result<&'a Scope<'a>, Refusal>
-    ensures ok { IfOk result (λ nothing. scope_of nothing.now ≡ no_name) }
-    ensures err { IfErr result (λ r. r ≡ refusal.Memory) }
-{
-    match bump.try_alloc_slice_copy(&[Scope::Empty]) {
-        Ok(cells) => {
-            let cells: &'a [Scope<'a>] = cells;
-            Ok(&cells[0])
-        }
-        Err(_) => Err(Refusal::Memory),
     }
 }
 
@@ -153,14 +138,12 @@ fn parameters<'a>(count: usize, state: &mut Unfolding<'a>) -> Result<Given<'a>, 
 fn unfold_definition<'a>(
     made: Made<'a>,
     reached: bool,
-    nothing: &'a Scope<'a>,
     definition: &Definition<'a>,
     state: &mut Unfolding<'a>,
 ) -> Result<Made<'a>, Refusal>
-    requires kept { Kept made.context.tops }
-    requires nothing { scope_of nothing.now ≡ no_name }
+    requires kept { Kept made.context.tops.value }
     ensures defined { Defined_to definition.now.bind (term_of definition.now.value.now) reached made.entry state.old state.new result }
-    ensures kept { IfOk result (λ r. Kept r.context.tops) }
+    ensures kept { IfOk result (λ r. Kept r.context.tops.value) }
 {
     let Made { context, at } = made;
     let first = match after(at, 1) {
@@ -177,7 +160,7 @@ fn unfold_definition<'a>(
     let setting = Setting {
         context: &context,
         level: 0,
-        scope: nothing,
+        scope: nothing(),
     };
     let mut r = unwalked();
     match walk(&setting, first, definition.value, state, &mut r) {
@@ -185,9 +168,13 @@ fn unfold_definition<'a>(
         Err(refusal) => return Err(refusal),
     }
     let Context { tops, types } = context;
-    let tops = match tops.with(definition.bind, r.known) {
+    let tops = match Box::into_inner(tops).with(definition.bind, r.known) {
         Ok(tops) => tops,
         Err(refusal) => return Err(refusal),
+    };
+    let tops = match Box::new(state.bump, tops) {
+        Ok(tops) => tops,
+        Err(_) => return Err(Refusal::Memory),
     };
     Ok(Made {
         context: Context { tops, types },
@@ -200,22 +187,20 @@ fn unfold_definitions<'a>(
     context: Context<'a>,
     entry: BindId,
     flags: &[bool],
-    nothing: &'a Scope<'a>,
     definitions: &[Definition<'a>],
     state: &mut Unfolding<'a>,
 ) -> Result<Made<'a>, Refusal>
-    requires kept { Kept context.tops }
+    requires kept { Kept context.tops.value }
     requires none { defined context ≡ [] }
-    requires nothing { scope_of nothing.now ≡ no_name }
     requires flags { Reached entry.0 definitions.now flags.now }
     requires length { length flags.now ≡ length definitions.now }
     ensures defined { Definitions_to context.entry.types.now entry.0 (flat_tops 0 (map named_term definitions.now)) state.old state.new result }
-    ensures kept { IfOk result (λ r. Kept r.context.tops) }
+    ensures kept { IfOk result (λ r. Kept r.context.tops.value) }
 {
     let mut made = Made { context, at: 0 };
     let mut at = 0;
     for definition in definitions {
-        made = match unfold_definition(made, flags[at], nothing, definition, state) {
+        made = match unfold_definition(made, flags[at], definition, state) {
             Ok(made) => made,
             Err(refusal) => return Err(refusal),
         };
@@ -232,7 +217,7 @@ fn unfold_entry<'a>(
     types: &'a [DataType],
     state: &mut Unfolding<'a>,
 ) -> Result<Program<'a>, Refusal>
-    requires kept { Kept context.now.tops }
+    requires kept { Kept context.now.tops.value }
     ensures { Entry_to context.now entry.0 given.entry types.now state.old result }
 {
     let function = match context.tops.of(entry) {

@@ -41,8 +41,8 @@ pub fn walk<'a>(
     state: &mut Unfolding<'a>,
     walked: &mut Walked<'a>,
 ) -> Result<(), Refusal>
-    requires kept { Kept setting.now.context.now.tops }
-    ensures { Unfolded setting.now.context.now (scope_of setting.now.scope.now) at (term_of exp.now) state.old state.new (written result walked.new) }
+    requires kept { Kept setting.now.context.now.tops.value }
+    ensures { Unfolded setting.now.context.now (scope_of setting.now.scope) at (term_of exp.now) state.old state.new (written result walked.new) }
 {
     if setting.level >= MOST_DEPTH {
         return Err(Refusal::Memory);
@@ -69,10 +69,10 @@ fn walk_form<'a>(
     state: &mut Unfolding<'a>,
     walked: &mut Walked<'a>,
 ) -> Result<(), Refusal>
-    requires kept { Kept setting.now.context.now.tops }
+    requires kept { Kept setting.now.context.now.tops.value }
     requires level { setting.now.level ≤ 2000 }
     requires inside { inside ≡ at + 1 }
-    ensures { Unfolded setting.now.context.now (scope_of setting.now.scope.now) at (term_of exp.now) state.old state.new (written result walked.new) }
+    ensures { Unfolded setting.now.context.now (scope_of setting.now.scope) at (term_of exp.now) state.old state.new (written result walked.new) }
 {
     match &exp.form {
         Form::Use(reference, _) => {
@@ -104,13 +104,13 @@ fn walk_form<'a>(
 #[inline(never)]
 fn walk_lambda<'a>(
     bump: &'a Bump,
-    scope: &'a Scope<'a>,
+    scope: Scope<'a>,
     inside: u32,
     params: &'a [Pat<'a>],
     body: &'a Exp<'a>,
     walked: &mut Walked<'a>,
 ) -> Result<(), Refusal>
-    ensures { Lambda_known (scope_of scope.now) inside (patterns (map pattern_of params.now)) (term_of body.now) (written result walked.new) }
+    ensures { Lambda_known (scope_of scope.entry) inside (patterns (map pattern_of params.now)) (term_of body.now) (written result walked.new) }
 {
     let first = match after_patterns(inside, params) {
         Ok(first) => first,
@@ -138,9 +138,9 @@ fn walk_strict<'a>(
     state: &mut Unfolding<'a>,
     walked: &mut Walked<'a>,
 ) -> Result<(), Refusal>
-    requires kept { Kept setting.now.context.now.tops }
+    requires kept { Kept setting.now.context.now.tops.value }
     requires level { setting.now.level ≤ 2000 }
-    ensures { Unfolded setting.now.context.now (scope_of setting.now.scope.now) at (Strict (operation_of act.now) mark (terms (map term_of parts.now))) state.old state.new (written result walked.new) }
+    ensures { Unfolded setting.now.context.now (scope_of setting.now.scope) at (Strict (operation_of act.now) mark (terms (map term_of parts.now))) state.old state.new (written result walked.new) }
 {
     let first = match after(at, own_numbers_of(act)) {
         Ok(first) => first,
@@ -161,9 +161,9 @@ fn walk_parts<'a>(
     exps: &'a [Exp<'a>],
     state: &mut Unfolding<'a>,
 ) -> Result<Parts<'a>, Refusal>
-    requires kept { Kept setting.now.context.now.tops }
+    requires kept { Kept setting.now.context.now.tops.value }
     requires level { setting.now.level ≤ 2000 }
-    ensures { All_unfolded setting.now.context.now (scope_of setting.now.scope.now) at (terms (map term_of exps.now)) state.old state.new result }
+    ensures { All_unfolded setting.now.context.now (scope_of setting.now.scope) at (terms (map term_of exps.now)) state.old state.new result }
 {
     let mut knowns = Vec::new(state.bump);
     let mut next = at;
@@ -195,9 +195,9 @@ fn walk_apply<'a>(
     state: &mut Unfolding<'a>,
     walked: &mut Walked<'a>,
 ) -> Result<(), Refusal>
-    requires kept { Kept setting.now.context.now.tops }
+    requires kept { Kept setting.now.context.now.tops.value }
     requires level { setting.now.level ≤ 2000 }
-    ensures { Unfolded_inside setting.now.context.now (scope_of setting.now.scope.now) inside (Apply (term_of function.now) (term_of argument.now)) state.old state.new (written result walked.new) }
+    ensures { Unfolded_inside setting.now.context.now (scope_of setting.now.scope) inside (Apply (term_of function.now) (term_of argument.now)) state.old state.new (written result walked.new) }
 {
     let mut f = unwalked();
     match walk(setting, inside, function, state, &mut f) {
@@ -234,9 +234,9 @@ fn walk_scalar<'a>(
     exp: &'a Exp<'a>,
     state: &mut Unfolding<'a>,
 ) -> Result<WalkedScalar, Refusal>
-    requires kept { Kept setting.now.context.now.tops }
+    requires kept { Kept setting.now.context.now.tops.value }
     requires level { setting.now.level ≤ 2000 }
-    ensures { Scalar_unfolded setting.now.context.now (scope_of setting.now.scope.now) at (term_of exp.now) state.old state.new result }
+    ensures { Scalar_unfolded setting.now.context.now (scope_of setting.now.scope) at (term_of exp.now) state.old state.new result }
 {
     let mut walked = unwalked();
     match walk(setting, at, exp, state, &mut walked) {
@@ -257,9 +257,9 @@ fn walk_if<'a>(
     state: &mut Unfolding<'a>,
     walked: &mut Walked<'a>,
 ) -> Result<(), Refusal>
-    requires kept { Kept setting.now.context.now.tops }
+    requires kept { Kept setting.now.context.now.tops.value }
     requires level { setting.now.level ≤ 2000 }
-    ensures { Unfolded_inside setting.now.context.now (scope_of setting.now.scope.now) inside (If (term_of test.now) (term_of yes.now) (term_of no.now)) state.old state.new (written result walked.new) }
+    ensures { Unfolded_inside setting.now.context.now (scope_of setting.now.scope) inside (If (term_of test.now) (term_of yes.now) (term_of no.now)) state.old state.new (written result walked.new) }
 {
     let truth = match walk_scalar(setting, inside, test, state) {
         Ok(truth) => truth,
@@ -295,9 +295,9 @@ fn walk_branches<'a>(
     state: &mut Unfolding<'a>,
     walked: &mut Walked<'a>,
 ) -> Result<Shapes, Refusal>
-    requires kept { Kept setting.now.context.now.tops }
+    requires kept { Kept setting.now.context.now.tops.value }
     requires level { setting.now.level ≤ 2000 }
-    ensures { Branches_to setting.now.context.now (scope_of setting.now.scope.now) truth.now (term_of yes.now) (term_of no.now) packs state.old state.new (agreed result walked.new) }
+    ensures { Branches_to setting.now.context.now (scope_of setting.now.scope) truth.now (term_of yes.now) (term_of no.now) packs state.old state.new (agreed result walked.new) }
 {
     let mark = state.mark();
     match walk(setting, truth.at, yes, state, walked) {
@@ -328,10 +328,10 @@ fn walk_block<'a>(
     like: &Known<'a>,
     state: &mut Unfolding<'a>,
 ) -> Result<Option<Branch<'a>>, Refusal>
-    requires kept { Kept setting.now.context.now.tops }
+    requires kept { Kept setting.now.context.now.tops.value }
     requires level { setting.now.level ≤ 2000 }
     requires mark { mark ≤ length (steps_of state.old) }
-    ensures { Blocked_to setting.now.context.now (scope_of setting.now.scope.now) mark at (term_of exp.now) (known_of like.now) state.old state.new result }
+    ensures { Blocked_to setting.now.context.now (scope_of setting.now.scope) mark at (term_of exp.now) (known_of like.now) state.old state.new result }
 {
     let mut r = unwalked();
     match walk(setting, at, exp, state, &mut r) {
@@ -350,9 +350,9 @@ fn walk_loop<'a>(
     state: &mut Unfolding<'a>,
     walked: &mut Walked<'a>,
 ) -> Result<(), Refusal>
-    requires kept { Kept setting.now.context.now.tops }
+    requires kept { Kept setting.now.context.now.tops.value }
     requires level { setting.now.level ≤ 2000 }
-    ensures { Unfolded_inside setting.now.context.now (scope_of setting.now.scope.now) inside (loop_of whole.now) state.old state.new (written result walked.new) }
+    ensures { Unfolded_inside setting.now.context.now (scope_of setting.now.scope) inside (loop_of whole.now) state.old state.new (written result walked.new) }
 {
     let value = match after_pattern(inside, &whole.pat) {
         Ok(value) => value,
@@ -389,9 +389,9 @@ fn walk_first<'a>(
     state: &mut Unfolding<'a>,
     walked: &mut Walked<'a>,
 ) -> Result<Shapes, Refusal>
-    requires kept { Kept setting.now.context.now.tops }
+    requires kept { Kept setting.now.context.now.tops.value }
     requires level { setting.now.level ≤ 2000 }
-    ensures { Tried_to setting.now.context.now (scope_of setting.now.scope.now) whole.now (turns_of whole.now.form) first.now state.old state.new (agreed result walked.new) }
+    ensures { Tried_to setting.now.context.now (scope_of setting.now.scope) whole.now (turns_of whole.now.form) first.now state.old state.new (agreed result walked.new) }
 {
     if state.packs(inside) {
         return Ok(Shapes::Differ);
@@ -418,9 +418,9 @@ fn walk_turns<'a>(
     state: &mut Unfolding<'a>,
     walked: &mut Walked<'a>,
 ) -> Result<Shapes, Refusal>
-    requires kept { Kept setting.now.context.now.tops }
+    requires kept { Kept setting.now.context.now.tops.value }
     requires level { setting.now.level ≤ 2000 }
-    ensures { Looped_to setting.now.context.now (scope_of setting.now.scope.now) whole.now (turns_of whole.now.form) first.now state.old state.new (agreed result walked.new) }
+    ensures { Looped_to setting.now.context.now (scope_of setting.now.scope) whole.now (turns_of whole.now.form) first.now state.old state.new (agreed result walked.new) }
 {
     match &whole.form {
         LoopForm::For(index, count) => {
@@ -442,9 +442,9 @@ fn walk_for<'a>(
     state: &mut Unfolding<'a>,
     walked: &mut Walked<'a>,
 ) -> Result<Shapes, Refusal>
-    requires kept { Kept setting.now.context.now.tops }
+    requires kept { Kept setting.now.context.now.tops.value }
     requires level { setting.now.level ≤ 2000 }
-    ensures { Looped_to setting.now.context.now (scope_of setting.now.scope.now) whole.now (Counted index (term_of count.now)) first.now state.old state.new (agreed result walked.new) }
+    ensures { Looped_to setting.now.context.now (scope_of setting.now.scope) whole.now (Counted index (term_of count.now)) first.now state.old state.new (agreed result walked.new) }
 {
     let counting = match after(first.at, 1) {
         Ok(counting) => counting,
@@ -494,9 +494,9 @@ fn walk_rows<'a>(
     state: &mut Unfolding<'a>,
     walked: &mut Walked<'a>,
 ) -> Result<Shapes, Refusal>
-    requires kept { Kept setting.now.context.now.tops }
+    requires kept { Kept setting.now.context.now.tops.value }
     requires level { setting.now.level ≤ 2000 }
-    ensures { Looped_to setting.now.context.now (scope_of setting.now.scope.now) whole.now (Over (pattern_of row.now) (term_of rows.now)) first.now state.old state.new (agreed result walked.new) }
+    ensures { Looped_to setting.now.context.now (scope_of setting.now.scope) whole.now (Over (pattern_of row.now) (term_of rows.now)) first.now state.old state.new (agreed result walked.new) }
 {
     let counting = match after_pattern(first.at, row) {
         Ok(counting) => counting,
@@ -538,9 +538,9 @@ fn walk_while<'a>(
     state: &mut Unfolding<'a>,
     walked: &mut Walked<'a>,
 ) -> Result<Shapes, Refusal>
-    requires kept { Kept setting.now.context.now.tops }
+    requires kept { Kept setting.now.context.now.tops.value }
     requires level { setting.now.level ≤ 2000 }
-    ensures { Looped_to setting.now.context.now (scope_of setting.now.scope.now) whole.now (While (term_of test.now)) first.now state.old state.new (agreed result walked.new) }
+    ensures { Looped_to setting.now.context.now (scope_of setting.now.scope) whole.now (While (term_of test.now)) first.now state.old state.new (agreed result walked.new) }
 {
     let entered = match enter(&first.known, state) {
         Ok(entered) => entered,
@@ -574,9 +574,9 @@ fn walk_test<'a>(
     known: &Known<'a>,
     state: &mut Unfolding<'a>,
 ) -> Result<Branch<'a>, Refusal>
-    requires kept { Kept setting.now.context.now.tops }
+    requires kept { Kept setting.now.context.now.tops.value }
     requires level { setting.now.level ≤ 2000 }
-    ensures { Tested_to setting.now.context.now (scope_of setting.now.scope.now) (pattern_of whole.now.pat) at (term_of test.now) (known_of known.now) state.old state.new result }
+    ensures { Tested_to setting.now.context.now (scope_of setting.now.scope) (pattern_of whole.now.pat) at (term_of test.now) (known_of known.now) state.old state.new result }
 {
     let mark = state.mark();
     let scope = match bind(state, &whole.pat, *known, setting.scope) {
@@ -600,9 +600,9 @@ fn walk_lets<'a>(
     state: &mut Unfolding<'a>,
     walked: &mut Walked<'a>,
 ) -> Result<(), Refusal>
-    requires kept { Kept setting.now.context.now.tops }
+    requires kept { Kept setting.now.context.now.tops.value }
     requires level { setting.now.level ≤ 2000 }
-    ensures { Unfolded setting.now.context.now (scope_of setting.now.scope.now) at (term_of exp.now) state.old state.new (written result walked.new) }
+    ensures { Unfolded setting.now.context.now (scope_of setting.now.scope) at (term_of exp.now) state.old state.new (written result walked.new) }
 {
     let mut rest = exp;
     let mut row = Row {
@@ -631,7 +631,7 @@ fn walk_row<'a>(
     lets: &'a [Let<'a>],
     state: &mut Unfolding<'a>,
 ) -> Result<Row<'a>, Refusal>
-    requires kept { Kept setting.now.context.now.tops }
+    requires kept { Kept setting.now.context.now.tops.value }
     requires level { setting.now.level ≤ 2000 }
     ensures { Row_unfolded setting.now.context.now row.entry (map row_of lets.now) state.old state.new result }
 {
@@ -676,7 +676,7 @@ pub fn apply<'a>(
     state: &mut Unfolding<'a>,
     walked: &mut Walked<'a>,
 ) -> Result<(), Refusal>
-    requires kept { Kept context.now.tops }
+    requires kept { Kept context.now.tops.value }
     requires level { level ≤ 2000 }
     ensures { Applied context.now (known_of function.now) (known_of argument.now) state.old state.new (written result walked.new.known) }
 {
@@ -721,7 +721,7 @@ fn apply_to<'a>(
     state: &mut Unfolding<'a>,
     walked: &mut Walked<'a>,
 ) -> Result<(), Refusal>
-    requires kept { Kept context.now.tops }
+    requires kept { Kept context.now.tops.value }
     requires level { level ≤ 2000 }
     ensures { Applied context.now (Primitive_known primitive place (knowns (map known_of known.now))) (known_of argument.now) state.old state.new (written result walked.new.known) }
 {
@@ -749,7 +749,7 @@ fn walk_job<'a>(
     state: &mut Unfolding<'a>,
     walked: &mut Walked<'a>,
 ) -> Result<(), Refusal>
-    requires kept { Kept context.now.tops }
+    requires kept { Kept context.now.tops.value }
     requires level { level ≤ 2000 }
     ensures { Job_applied context.now primitive place (map known_of arguments.now) state.old state.new (written result walked.new.known) }
 {
@@ -779,7 +779,7 @@ pub fn apply_all<'a>(
     arguments: &'a [Known<'a>],
     state: &mut Unfolding<'a>,
 ) -> Result<Known<'a>, Refusal>
-    requires kept { Kept context.now.tops }
+    requires kept { Kept context.now.tops.value }
     requires level { level ≤ 2000 }
     ensures { All_applied context.now (map known_of arguments.now) (known_of function.now) state.old state.new result }
 {

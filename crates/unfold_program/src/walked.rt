@@ -1,4 +1,5 @@
 // What unfolding a part of a program gives.
+use bumpalo::Bump;
 use fut_blocks::{Atom, Block};
 use fut_scalar::IntType;
 use unfold::{Known, Scope};
@@ -14,7 +15,8 @@ pub const MOST_GIVEN: usize = 64;
 /// What is known of the definitions, and the types of integers without a suffix, by the numbers of their nodes.
 #[derive(Drop)]
 pub struct Context<'a> {
-    pub tops: Tops<'a>,
+    // In a box, since what a type reaches through references has to be bounded.
+    pub tops: Box<Tops<'a>, &'a Bump>,
     pub types: &'a [IntType],
 }
 
@@ -23,7 +25,7 @@ pub struct Context<'a> {
 pub struct Setting<'c, 'a> {
     pub context: &'c Context<'a>,
     pub level: u32,
-    pub scope: &'a Scope<'a>,
+    pub scope: Scope<'a>,
 }
 
 /// What is known of a term's value, and the number of the node behind the term.
@@ -65,7 +67,7 @@ pub struct Branch<'a> {
 /// How far a row of `let`s has come: the names so far, and the number of the next node.
 #[derive(Clone, Copy)]
 pub struct Row<'a> {
-    pub scope: &'a Scope<'a>,
+    pub scope: Scope<'a>,
     pub at: u32,
 }
 

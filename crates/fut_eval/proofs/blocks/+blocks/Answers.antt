@@ -9,8 +9,8 @@ use Rattle.fut_eval.proofs.blocks.+blocks.Goals as goal
 
 pub run_act-returns-in-Size : goal.run_act-returns-in-Size
 run_act-returns-in-Size t c =
-    subst (λ z. Act_runs c.args.turns z (held_all c.args.table.now) (held_all c.args.table.now) (held_all c.args.stack.now.items) (held_all c.put_size.new.stack.items) c.put_size.result) (sym (ap action_of c.in-Size.is ∙ action_of-Size c.in-Size.readings))
-    (act_made c.args.turns (Size_of (extent_of c.in-Size.readings.now)) c.args.table.now c.args.table.now (held_all c.args.stack.now.items) (held_all c.put_size.new.stack.items) c.put_size.result c.put_size.ensures refl)
+    subst (λ z. Act_runs c.args.turns z (held_all c.args.table.now) (held_all c.args.table.now) (held_all c.args.stack.now.items) (held_all c.put_size.new.stack.items) c.put_size.result) (sym (ap action_of c.in-Size.is ∙ action_of-Size c.in-Size.extent))
+    (act_made c.args.turns (Size_of (extent_of c.in-Size.extent)) c.args.table.now c.args.table.now (held_all c.args.stack.now.items) (held_all c.put_size.new.stack.items) c.put_size.result c.put_size.ensures refl)
 
 pub run_act-returns-in-Coerce : goal.run_act-returns-in-Coerce
 run_act-returns-in-Coerce t c =

@@ -26,10 +26,12 @@ returns-in_err-made c =
 pub returns-in_err-note : goal.returns-in_err-note
 returns-in_err-note c =
     let p = err_from_is_err_and c.from_residual-in_err-note.result c.from_residual-in_err-note.ensures.1 in
-    let r = c.in_ok-settled.ensures _ (c.in_ok-settle_all.ensures.settled nothing_found c.nothing_found-table.ensures) in
-    rw (p.1, p.2) (λ N types. finish_stops N types c.args.node c.args.size c.in_ok-settled.settled c.in_ok-made.made _ _ r c.in_ok-made.ensures _ c.in_err-note.ensures)
+    let held = c.in_ok-settle_all.ensures.settled nothing_found c.nothing_found-table.ensures in
+    let r = c.in_ok-settled.ensures _ held in
+    rw (p.1, p.2) (λ N types. finish_stops N types c.args.node c.args.size c.in_ok-settled.settled c.in_ok-made.made _ _ _ c.as_slice.result.now c.as_slice.ensures held r c.in_ok-made.ensures _ c.in_err-note.ensures)
 
 pub returns : goal.returns
 returns c =
-    let r = c.in_ok-settled.ensures _ (c.in_ok-settle_all.ensures.settled nothing_found c.nothing_found-table.ensures) in
-    λ N types. finish_done N types c.args.node c.args.size c.in_ok-settled.settled c.in_ok-made.made _ _ r c.in_ok-made.ensures _ c.in_ok-note.ensures
+    let held = c.in_ok-settle_all.ensures.settled nothing_found c.nothing_found-table.ensures in
+    let r = c.in_ok-settled.ensures _ held in
+    λ N types. finish_done N types c.args.node c.args.size c.in_ok-settled.settled c.in_ok-made.made _ _ _ c.as_slice.result.now c.as_slice.ensures held r c.in_ok-made.ensures _ c.in_ok-note.ensures

@@ -9,7 +9,7 @@ use Rattle.size_applying.specs.declared.arguments.Argument.{Argument}
 use Rattle.size_walk.specs.Walked.{Has_arguments, Lambda_met, types_at, want_of, turn_going}
 use Rattle.size_walk.proofs.LambdaLaws.{lambda_begin_stops, lambda_body_stops, lambda_done}
 use Rattle.fut_sizes.specs.Applications.{applied, functions_met}
-use Rattle.fut_sizes.specs.Matching.{none_opened, nothing_found}
+use Rattle.fut_sizes.specs.Matching.{made_at, none_opened, nothing_found}
 use Rattle.fut_sizes.specs.Sizing.{as_argument, finished, met_noted}
 use Rattle.size_applying.specs.Going.{Is_met}
 use Rattle.size_applying.specs.Wanted.{Is_argument, Is_part, none_each, one_each}
@@ -21,7 +21,7 @@ use Rattle.size_applying.proofs.FunctionLaws.{all_stop, all_then, early_taken, f
 use Rattle.size_arena.proofs.Parts.{drop_past}
 use Rattle.std.proofs.Math.Seq.{drop-cons}
 use Rattle.size_walk.proofs.TakingLaws.{as_wanted, left_behind, next_functions, next_way, taken_again, taken_on, taken_over}
-use Rattle.size_walk.proofs.MeetLaws.{lambda_met, lambda_not_met}
+use Rattle.size_walk.proofs.MeetLaws.{lambda_met, lambda_not_met, made_where}
 use Rattle.size_walk.proofs.Joining.{halted, retold}
 use Rattle.size_walk.proofs.PartLaws.{for_applied, for_waiting, lambda_alone, lambda_alone_stops, lambda_wanted, not_wanted, unapplied_is, whole_argument, whole_argument_stops, argument_done, argument_refused, argument_stops, whole_done, whole_refused, whole_stops}
 use Rattle.size_walk.proofs.ApplyingLaws.{argument_stops_there, give_stops_there, given_begins, given_ends, given_goes, given_number, head_stops}
@@ -202,37 +202,37 @@ pub size_row-returns-clause-next : goal.size_row-returns-clause-next
 size_row-returns-clause-next t c = row_numbers (types_at c.args.site.now) c.args.site.now.program c.args.site.now.names.now c.args.exps.now c.args.node c.args.tables.now c.loop-exp.exp-index c.loop-exp.next c.loop-exp.made.items _ c.loop-exp.invariant c.loop-exp-test.false
 
 pub match_function-returns-in-Early-clause-met : goal.match_function-returns-in-Early-clause-met
-match_function-returns-in-Early-clause-met t c = λ N k w wants σ holds. early_taken N (types_at c.args.site.now) c.args.node c.args.is_regular c.args.wanting.now w wants σ _ _ _ _ c.in-Early.is _ _ _ (c.function_meets.ensures.met N (types_at c.args.site.now) w wants σ holds)
+match_function-returns-in-Early-clause-met t c = λ N k w wants σ holds. early_taken N (types_at c.args.site.now) c.args.is_regular c.args.wanting.now w wants σ _ _ _ _ c.in-Early.is _ _ _ (c.function_meets.ensures.met N (types_at c.args.site.now) w wants σ holds)
 
 pub match_function-returns-in_err-size_lambda-in-Late-clause-met : goal.match_function-returns-in_err-size_lambda-in-Late-clause-met
 match_function-returns-in_err-size_lambda-in-Late-clause-met t c =
     let p = err_from_is_err_and c.from_residual.result c.from_residual.ensures.1 in
-    rw (p.1, p.2) (λ N k w wants σ holds. lambda_not_met N (types_at c.args.site.now) c.args.node c.args.is_regular c.args.wanting.now w wants σ c.in-Late.exp c.in-Late.own c.in-Late.names c.in-Late.is _ _ _ _ _ (c.in-Ok.ensures N (types_at c.args.site.now) w wants σ holds) (λ h waits. c.in_err-size_lambda-in-Late.ensures.sized N k h waits σ holds))
+    rw (p.1, p.2) (λ N k w wants σ holds. lambda_not_met N (types_at c.args.site.now) c.args.is_regular c.args.wanting.now w wants σ c.in-Late.exp c.in-Late.own c.in-Late.names c.in-Late.is _ _ _ _ _ (c.in-Ok.ensures.wish N (types_at c.args.site.now) w wants σ holds) (λ h waits. c.in_err-size_lambda-in-Late.ensures.sized N k h waits (made_at w.node σ) (made_where c.args.wanting.now w wants.node σ _ (c.in-Ok.ensures.made σ holds))))
 
 pub match_function-returns-in_ok-size_lambda-in-Late-clause-met : goal.match_function-returns-in_ok-size_lambda-in-Late-clause-met
-match_function-returns-in_ok-size_lambda-in-Late-clause-met t c = λ N k w wants σ holds. lambda_met N (types_at c.args.site.now) c.args.node c.args.is_regular c.args.wanting.now w wants σ c.in-Late.exp c.in-Late.own c.in-Late.names c.in-Late.is _ _ _ c.in_ok-size_lambda-in-Late.field-0 _ (c.in-Ok.ensures N (types_at c.args.site.now) w wants σ holds) (λ h waits. c.in_ok-size_lambda-in-Late.ensures.sized N k h waits σ holds)
+match_function-returns-in_ok-size_lambda-in-Late-clause-met t c = λ N k w wants σ holds. lambda_met N (types_at c.args.site.now) c.args.is_regular c.args.wanting.now w wants σ c.in-Late.exp c.in-Late.own c.in-Late.names c.in-Late.is _ _ _ c.in_ok-size_lambda-in-Late.field-0 _ (c.in-Ok.ensures.wish N (types_at c.args.site.now) w wants σ holds) (λ h waits. c.in_ok-size_lambda-in-Late.ensures.sized N k h waits (made_at w.node σ) (made_where c.args.wanting.now w wants.node σ _ (c.in-Ok.ensures.made σ holds)))
 
 pub match_functions-loop-wanting-init : goal.match_functions-loop-wanting-init
-match_functions-loop-wanting-init t c = (λ N k ws want σ holds. functions_start N (types_at c.args.site.now) c.args.node c.args.is_regular c.args.tables.now c.args.table.now c.args.wantings.now ws σ want holds, c.requires.held)
+match_functions-loop-wanting-init t c = (λ N k ws want σ holds. functions_start N (types_at c.args.site.now) c.args.is_regular c.args.tables.now c.args.table.now c.args.wantings.now ws σ want holds, c.requires.held)
 
 pub match_functions-returns-in_err-match_function-clause-met : goal.match_functions-returns-in_err-match_function-clause-met
 match_functions-returns-in_err-match_function-clause-met t c =
     let p = err_from_is_err_and c.from_residual.result c.from_residual.ensures.1 in
-    rw (p.1, p.2) (λ N k ws want σ holds. functions_stop N (types_at c.args.site.now) c.args.node c.args.is_regular (functions_met c.args.node c.args.is_regular ws σ) c.args.tables.now _ _ _ (c.loop-wanting.invariant.0 N k ws want σ holds) _ _ (drop-cons c.args.wantings.now c.loop-wanting.wanting-index _ c.loop-wanting-test.true ∙ ap (λ z. z ∷ drop (suc c.loop-wanting.wanting-index) c.args.wantings.now) (sym c.wanting-item.is)) _ _ _ (λ w wants τ held_so. c.in_err-match_function.ensures.met N k w wants τ held_so) _ _ refl)
+    rw (p.1, p.2) (λ N k ws want σ holds. functions_stop N (types_at c.args.site.now) c.args.is_regular (functions_met c.args.is_regular ws σ) c.args.tables.now _ _ _ (c.loop-wanting.invariant.0 N k ws want σ holds) _ _ (drop-cons c.args.wantings.now c.loop-wanting.wanting-index _ c.loop-wanting-test.true ∙ ap (λ z. z ∷ drop (suc c.loop-wanting.wanting-index) c.args.wantings.now) (sym c.wanting-item.is)) _ _ _ (λ w wants τ held_so. c.in_err-match_function.ensures.met N k w wants τ held_so) _ _ refl)
 
 pub match_functions-loop-wanting-preserved : goal.match_functions-loop-wanting-preserved
-match_functions-loop-wanting-preserved t c = (λ N k ws want σ holds. next_functions N (types_at c.args.site.now) c.args.node c.args.is_regular (functions_met c.args.node c.args.is_regular ws σ) c.args.tables.now _ _ c.args.wantings.now c.loop-wanting.wanting-index (functions_more N (types_at c.args.site.now) c.args.node c.args.is_regular (functions_met c.args.node c.args.is_regular ws σ) c.args.tables.now _ _ _ (c.loop-wanting.invariant.0 N k ws want σ holds) _ _ (drop-cons c.args.wantings.now c.loop-wanting.wanting-index _ c.loop-wanting-test.true ∙ ap (λ z. z ∷ drop (suc c.loop-wanting.wanting-index) c.args.wantings.now) (sym c.wanting-item.is)) _ _ _ (λ w wants τ held_so. c.in_ok-match_function.ensures.met N k w wants τ held_so) refl), c.in_ok-match_function.ensures.held)
+match_functions-loop-wanting-preserved t c = (λ N k ws want σ holds. next_functions N (types_at c.args.site.now) c.args.is_regular (functions_met c.args.is_regular ws σ) c.args.tables.now _ _ c.args.wantings.now c.loop-wanting.wanting-index (functions_more N (types_at c.args.site.now) c.args.is_regular (functions_met c.args.is_regular ws σ) c.args.tables.now _ _ _ (c.loop-wanting.invariant.0 N k ws want σ holds) _ _ (drop-cons c.args.wantings.now c.loop-wanting.wanting-index _ c.loop-wanting-test.true ∙ ap (λ z. z ∷ drop (suc c.loop-wanting.wanting-index) c.args.wantings.now) (sym c.wanting-item.is)) _ _ _ (λ w wants τ held_so. c.in_ok-match_function.ensures.met N k w wants τ held_so) refl), c.in_ok-match_function.ensures.held)
 
 pub match_functions-returns-clause-met : goal.match_functions-returns-clause-met
-match_functions-returns-clause-met t c = λ N k ws want σ holds. functions_end N (types_at c.args.site.now) c.args.node c.args.is_regular (functions_met c.args.node c.args.is_regular ws σ) c.args.tables.now _ _ _ (c.loop-wanting.invariant.0 N k ws want σ holds) (drop_past c.args.wantings.now c.loop-wanting.wanting-index c.loop-wanting-test.false)
+match_functions-returns-clause-met t c = λ N k ws want σ holds. functions_end N (types_at c.args.site.now) c.args.is_regular (functions_met c.args.is_regular ws σ) c.args.tables.now _ _ _ (c.loop-wanting.invariant.0 N k ws want σ holds) (drop_past c.args.wantings.now c.loop-wanting.wanting-index c.loop-wanting-test.false)
 
 pub match_all-returns-in_err-data_meet-clause-met : goal.match_all-returns-in_err-data_meet-clause-met
 match_all-returns-in_err-data_meet-clause-met t c =
     let p = err_from_is_err_and c.from_residual.result c.from_residual.ensures.1 in
-    rw (p.1, p.2) (λ N k ws want σ holds. all_stop c.args.node c.args.is_regular ws σ _ _ _ _ _ (c.in_err-data_meet.ensures.met N (types_at c.args.site.now) ws want σ holds) _ refl)
+    rw (p.1, p.2) (λ N k ws want σ holds. all_stop c.args.is_regular ws σ _ _ _ _ _ (c.in_err-data_meet.ensures.met N (types_at c.args.site.now) ws want σ holds) _ refl)
 
 pub match_all-returns-clause-met : goal.match_all-returns-clause-met
-match_all-returns-clause-met t c = λ N k ws want σ holds. all_then c.args.node c.args.is_regular ws σ _ _ _ _ _ (c.in_ok-data_meet.ensures.met N (types_at c.args.site.now) ws want σ holds) _ refl (λ τ held_so. c.match_functions.ensures.met N k ws want τ held_so)
+match_all-returns-clause-met t c = λ N k ws want σ holds. all_then c.args.is_regular ws σ _ _ _ _ _ (c.in_ok-data_meet.ensures.met N (types_at c.args.site.now) ws want σ holds) _ refl (λ τ held_so. c.match_functions.ensures.met N k ws want τ held_so)
 
 pub give_argument-returns-in_err-size-in-Waiting : goal.give_argument-returns-in_err-size-in-Waiting
 give_argument-returns-in_err-size-in-Waiting t c =

@@ -122,7 +122,7 @@ abbrev pub invariant-apply-loop-argument : goal.invariant-apply-loop-argument
 invariant-apply-loop-argument l = ((N : Names) → Knows l.site.program.names N → (given : List Argument) → Are_arguments N (types_at l.site) l.arguments given → Under_way N (types_at l.site) l.node l.is_regular (applied l.node l.is_regular given [] none_opened true (size_of l.size) [] nothing_found) l.fn.tables l.tables l.application l.table (drop l.argument-index l.arguments)) × Held l.table × (l.left + l.argument-index ≡ length l.arguments)
 
 abbrev pub invariant-match_functions-loop-wanting : goal.invariant-match_functions-loop-wanting
-invariant-match_functions-loop-wanting l = ((N : Names) → Knows l.site.program.names N → (ws : List Wanting) → All_want N (types_at l.site) l.wantings ws → (σ : matching.Found) → Holds l.fn.table σ → Functions_left N (types_at l.site) l.node l.is_regular (functions_met l.node l.is_regular ws σ) l.fn.tables l.tables l.table (drop l.wanting-index l.wantings)) × Held l.table
+invariant-match_functions-loop-wanting l = ((N : Names) → Knows l.site.program.names N → (ws : List Wanting) → All_want N (types_at l.site) l.wantings ws → (σ : matching.Found) → Holds l.fn.table σ → Functions_left N (types_at l.site) l.is_regular (functions_met l.is_regular ws σ) l.fn.tables l.tables l.table (drop l.wanting-index l.wantings)) × Held l.table
 
 abbrev pub invariant-size_row-loop-exp : goal.invariant-size_row-loop-exp
 invariant-size_row-loop-exp l = Row_so_far (types_at l.site) l.site.program l.site.names.now l.exps l.node l.fn.tables l.exp-index l.next l.made.items l.tables

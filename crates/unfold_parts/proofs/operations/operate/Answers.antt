@@ -42,7 +42,7 @@ pub returns-in-Assert : goal.returns-in-Assert
 returns-in-Assert c = act_assert _ _ _ _ _ _ _ _ _ c.in-Assert.is c.assert_first.ensures
 
 pub returns-in-Array : goal.returns-in-Array
-returns-in-Array c = act_array _ _ _ _ _ _ _ _ _ c.in-Array.is c.make.ensures
+returns-in-Array c = act_array _ _ _ _ _ _ _ _ _ _ c.in-Array.is refl c.make.ensures
 
 pub returns-in-Index : goal.returns-in-Index
 returns-in-Index c = act_index _ _ _ _ _ _ _ _ _ _ c.in-Index.is c.make-in-Index.ensures

@@ -12,4 +12,4 @@ abbrev pub decreases-bind_all : goal.decreases-bind_all
 decreases-bind_all l = patterns_size (patterns (map pattern_of l.parts.now))
 
 abbrev pub invariant-bind_all-loop-part : goal.invariant-bind_all-loop-part
-invariant-bind_all-loop-part l = (l.part-index ≡ l.at) × All_lead l.parts l.given (scope_of l.scope) l.fn.work.next l.part-index l.at l.work.next (steps_of l.fn.work) (steps_of l.work) (scope_of l.names.scope.now)
+invariant-bind_all-loop-part l = (l.part-index ≡ l.at) × All_lead l.parts l.given (scope_of l.scope) l.fn.work.next l.part-index l.at l.work.next (steps_of l.fn.work) (steps_of l.work) (scope_of l.names.scope)

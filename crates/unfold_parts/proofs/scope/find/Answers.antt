@@ -3,7 +3,7 @@ use Rattle.unfold_parts.proofs.Finding.{local_is, find_here, find_odd, find_even
 use Rattle.unfold_parts.proofs.scope.find.Goals as goal
 
 pub loop-current-init : goal.loop-current-init
-loop-current-init c = local_is _ _
+loop-current-init c = local_is _ _ _
 
 pub returns-then-bind-number : goal.returns-then-bind-number
 returns-then-bind-number c = sym (c.loop-current.invariant ∙ find_here _ _ _ _ _ _ _ c.in-Bind.is c.if-bind-number.true)

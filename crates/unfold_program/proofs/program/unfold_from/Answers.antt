@@ -1,4 +1,4 @@
-use Rattle.unfold_program.proofs.Programs.{whole, whole_err, whole_ungiven, whole_undefined}
+use Rattle.unfold_program.proofs.Programs.{whole, whole_ungiven, whole_undefined}
 use Rattle.unfold_parts.specs.Refused.{no_memory}
 use Rattle.unfold_program.specs.Whole.{no_program}
 use Rattle.unfold_program.proofs.program.unfold_from.Goals as goal
@@ -9,8 +9,8 @@ returns-in-Err c = whole_ungiven _ _ _ _ _ _ _ _ c.in-Err.ensures.given
 pub returns-in-Err-reached : goal.returns-in-Err-reached
 returns-in-Err-reached c = no_program no_memory
 
-pub returns-in-Err-nothing_known : goal.returns-in-Err-nothing_known
-returns-in-Err-nothing_known c = whole_err _ _ _ _ _ c.in-Err-nothing_known.ensures.err
+pub returns-in-Err-new : goal.returns-in-Err-new
+returns-in-Err-new c = no_program no_memory
 
 pub returns-in-Err-unfold_definitions : goal.returns-in-Err-unfold_definitions
 returns-in-Err-unfold_definitions c = whole_undefined _ _ _ _ _ _ _ c.in-Err-unfold_definitions.ensures.defined

@@ -1,8 +1,10 @@
-use Rattle.std.proofs.Common.{refl, arith, ◌∙◌}
+use Rattle.std.proofs.Common.{refl, arith, ◌∙◌, subst}
 use Rattle.std.proofs.lemmas.Slice.{between_to_end}
 use Rattle.unfold_parts.specs.Refused.{no_memory}
 use Rattle.unfold_parts.proofs.Refusing.{only_memory}
-use Rattle.unfold_program.specs.Answers.{walked_to, not_walked, refused, all_refused, not_applied, not_looped, has_to_pack, not_tried, row_refused}
+use Rattle.unfold.specs.Held.{scope_of}
+use Rattle.unfold_parts.specs.Tables.{tops_of}
+use Rattle.unfold_program.specs.Answers.{Use_known, written, walked_to, not_walked, refused, all_refused, not_applied, not_looped, has_to_pack, not_tried, row_refused}
 use Rattle.unfold_program.proofs.Arms.{form_use, form_strict, form_lambda, form_apply, form_if, form_loop, strict_parts_err, strict_end, apply_function_err, apply_argument_err, apply_end, scalar_end, scalar_stuck}
 use Rattle.unfold_program.proofs.Branching.{closes, block_mark, block_stuck, closed_as, blocked_as, branches_as, then_err, then_unlaid, then_differs, closed_mark, else_err, else_differs, branches_end, branches_again, if_test_err, if_branched, if_branches_err, branches_mark, branches_cut}
 use Rattle.unfold_program.proofs.Looping.{turns_for, turns_for_in, turns_test, loop_first_err, loop_looped, loop_turns_err, loop_unpacked, loop_tried, loop_tried_err, packed_first, tried_looped, tried_err, tried_again, tried_as, looped_as, turns_mark, turn_mark, unentered, unnamed, count_err, counted_unbound, counted_body_err, counted_differs, counted_end, rows_err, row_unbound, row_mark, row_body_err, row_differs, row_end, test_unbound, test_err, test_mark, test_end, while_test_err, while_unbound, while_mark, while_body_err, while_differs, while_end}
@@ -22,7 +24,7 @@ pub walk-returns-in-Ok : goal.walk-returns-in-Ok
 walk-returns-in-Ok t c = peeled_unfolded _ _ _ _ _ _ _ _ c.in-Ok.ensures.peeled c.walk_form.ensures
 
 pub walk_form-returns-in-Use : goal.walk_form-returns-in-Use
-walk_form-returns-in-Use t c = form_use _ _ _ _ _ _ _ _ c.in-Use.is c.used.ensures
+walk_form-returns-in-Use t c = form_use c.args.setting.now.context.now _ _ _ _ _ _ _ c.in-Use.is (subst (λ z. Use_known (tops_of z) (scope_of c.args.setting.now.scope) c.in-Use.reference c.args.at c.args.exp.now (written c.used.result c.used.new.walked)) c.deref.ensures c.used.ensures)
 
 pub walk_form-returns-in-Lambda : goal.walk_form-returns-in-Lambda
 walk_form-returns-in-Lambda t c = form_lambda _ _ _ _ _ _ _ _ _ c.in-Lambda.is c.requires.inside c.walk_lambda.ensures

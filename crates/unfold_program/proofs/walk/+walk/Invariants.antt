@@ -77,13 +77,13 @@ abbrev pub decreases-apply_all : goal.decreases-apply_all
 decreases-apply_all l = room l.level + 7
 
 abbrev pub invariant-walk_parts-loop-exp : goal.invariant-walk_parts-loop-exp
-invariant-walk_parts-loop-exp l = Parts_lead l.setting.context.now (scope_of l.setting.scope.now) l.at l.exps l.fn.state l.state l.knowns.items l.next l.exp-index
+invariant-walk_parts-loop-exp l = Parts_lead l.setting.context.now (scope_of l.setting.scope) l.at l.exps l.fn.state l.state l.knowns.items l.next l.exp-index
 
 abbrev pub invariant-walk_row-loop-one : goal.invariant-walk_row-loop-one
 invariant-walk_row-loop-one l = Row_leads l.setting.context.now l.row l.lets l.fn.state l.state l.at l.one-index
 
 abbrev pub invariant-walk_lets-loop-rest : goal.invariant-walk_lets-loop-rest
-invariant-walk_lets-loop-rest l = Lets_lead l.setting.context.now (scope_of l.setting.scope.now) l.at (term_of l.exp) l.fn.state l.state l.row l.rest
+invariant-walk_lets-loop-rest l = Lets_lead l.setting.context.now (scope_of l.setting.scope) l.at (term_of l.exp) l.fn.state l.state l.row l.rest
 
 abbrev pub decreases-walk_lets-loop-rest : goal.decreases-walk_lets-loop-rest
 decreases-walk_lets-loop-rest l = size-Exp l.rest

@@ -1,5 +1,5 @@
 use Rattle.form_parts.proofs.FieldForms.{Placed_from}
-use Rattle.form_parts.proofs.fields.place_of.Given as goal
+use Rattle.form_parts.proofs.fields.field_at.Given as goal
 
 abbrev pub invariant-loop-i : goal.invariant-loop-i
 invariant-loop-i l = Placed_from l.name l.names l.forms l.i
