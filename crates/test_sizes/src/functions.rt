@@ -2,7 +2,7 @@
 use crate::answers::first_differing;
 
 /// Sources, each with what is said of it.
-const ROWS: [(&str, &str); 59] = [
+const ROWS: [(&str, &str); 63] = [
     (
         "def app [n] (f: [n]i64 -> [n]i64) (a: [n]i64): [n]i64 = f a def main (k: i64): [k]i64 = app (\\x -> map2 (+) x (iota k)) (iota k)",
         "accepted",
@@ -231,6 +231,22 @@ const ROWS: [(&str, &str); 59] = [
     ),
     (
         "def main [n] [m] (a: [n][m]i64): [n][m]i64 = let f xs = map (+ 1) xs in map f a",
+        "accepted",
+    ),
+    (
+        "def main: i64 = (\\(a: i64, b: i64) (xs: [a]i64) -> xs[0]) (1, 2) (iota 1)",
+        "1:18: a size escapes",
+    ),
+    (
+        "def main: i64 = (\\(a: i64) (xs: [a]i64) -> xs[0]) 1 (iota 1)",
+        "accepted",
+    ),
+    (
+        "def f (p: (i64, i64)) (xs: []i64): i64 = xs[0] def g (a: i64, b: i64) (xs: [a]i64): i64 = xs[b] def main: i64 = g (2, 1) (iota 2)",
+        "1:91: a size escapes",
+    ),
+    (
+        "def f [n] (g: [n]i64 -> i64) (k: i64) (xs: [n]i64): [n]i64 = xs def h (xs: []i64): i64 = 1 def main: []i64 = map2 (+) (f h 3 (iota 2)) (iota 2)",
         "accepted",
     ),
 ];
