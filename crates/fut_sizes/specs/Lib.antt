@@ -14,3 +14,4 @@ pub mod Programs
 pub mod Suiting
 pub mod Scoping
 pub mod Rules
+pub mod ProgramRules

@@ -6,8 +6,8 @@ use Rattle.fut_scalar.specs.declared.place.BindId.{BindId}
 use Rattle.fut_flat.specs.declared.prim.Ref.{Ref}
 use Rattle.fut_flat.specs.declared.prim.Ref.TheVariants as ref
 use Rattle.fut_flat.specs.Numbers.{pattern_numbers, all_pattern_numbers, own_numbers, numbers, all_numbers, turn_numbers}
-use Rattle.fut_flat.specs.Terms.{Bound_pattern, Wild_pattern, Tuple_pattern, Record_pattern, Typed_pattern, Patterns, no_pattern, pattern_and, Binding, Integer, Use, Strict, Lambda, Apply, Let, If, Loop, Terms, no_term, term_and, Counted, Over, While}
-use Rattle.fut_flat.specs.Erased.{FlatTerm, FlatTurns, FlatPattern}
+use Rattle.fut_flat.specs.Terms.{Size_term, Size_use, Array_type, Unique_type, Tuple_type, Record_type, Type_terms, no_type, type_and, Operation, Coerce, Bound_pattern, Wild_pattern, Tuple_pattern, Record_pattern, Typed_pattern, Patterns, no_pattern, pattern_and, Binding, Integer, Use, Strict, Lambda, Apply, Let, If, Loop, Terms, no_term, term_and, Counted, Over, While}
+use Rattle.fut_flat.specs.Erased.{FlatTerm, FlatType, FlatTurns, FlatPattern}
 use Rattle.fut_types.specs.declared.Head.TheVariants as head
 use Rattle.fut_types.specs.Types.{Sub}
 use Rattle.fut_typing.specs.Names.{Names}
@@ -79,12 +79,34 @@ pub record Filled_use (is_general : Variable → Bool) (scheme u : Size) : Type 
   pub data_types : (v : Variable) → Data (types v)
   pub closed : (v : Variable) → Each (Scoped Any_free) 0 (types v)
   pub others : (v : Variable) → is_general v ≡ false → types v ≡ Hole v
-  pub used : Suits (filled types scheme) u ⊎ For_each_choice (filled types scheme) u
+  -- what stands for the variables may name what the wanted type's caller chooses, the general type knows nothing of it
+  pub used : Suits (filled types scheme) u ⊎ ((C : For_each_choice (filled types scheme) u) × Never_at C.n scheme)
 
 -- ---- sizes that the pattern of a let or a loop names, and what each takes
 abbrev pub taken_by : (ℕ → Free) → List ℕ → Free → Free
 taken_by what bs (Name c) = cond (is_among bs c) (what c) (Name c)
 taken_by what bs d = d
+
+-- ---- `:>`: each size that it writes outside of function types is compared, so it can be found
+abbrev pub Size_found : Size_term Ref BindId → Context → Type 0
+Size_found (Size_use (ref.Bound b)) G = G.finds (Name b.0) ≡ true
+Size_found d G = Unit {0}
+
+abbrev mutual
+  pub Sizes_found : FlatType → Context → Type 0
+  Sizes_found (Array_type d e) G = Size_found d G × Sizes_found e G
+  Sizes_found (Unique_type e) G = Sizes_found e G
+  Sizes_found (Tuple_type es) G = All_sizes_found es G
+  Sizes_found (Record_type fs es) G = All_sizes_found es G
+  Sizes_found e G = Unit {0}
+
+  pub All_sizes_found : Type_terms Ref BindId → Context → Type 0
+  All_sizes_found no_type G = Unit {0}
+  All_sizes_found (type_and e es) G = Sizes_found e G × All_sizes_found es G
+
+abbrev pub Compared_found : Operation Ref BindId → Context → Type 0
+Compared_found (Coerce e) G = Sizes_found e G
+Compared_found o G = Unit {0}
 
 module _ (N : Names) (types : Sub) (s : ℕ → Size) (home : ℕ → ℕ) where
   -- made by a node of these, or bound there
@@ -233,7 +255,9 @@ module _ (N : Names) (types : Sub) (s : ℕ → Size) (home : ℕ → ℕ) where
     pub type : s (1 + lo) ≡ s mid
     pub result : s lo ≡ renamed (leave lo (names p)) (s at)
     pub no_parameter : takes (names_one (names p)) (s at) ≡ false
+    pub bound : (c : ℕ) → is_among (names p) c ≡ true → Inside (1 + lo) mid (Name c)
     pub away : Away at hi (s mid)
+    pub own_away : Away lo (1 + lo) (s at)
     pub sizes_apart : (b : ℕ) (t : Size) → G.sizes b ≡ Some t → Each_hole (λ v. new v ≡ false) t
     pub schemes_apart : (b : ℕ) (t : Size) → G.schemes b ≡ Some t → Each_hole (λ v. (G.general b v ≡ true) ⊎ (new v ≡ false)) t
     pub types_apart : (v : Variable) → G.finds_types v ≡ true → new v ≡ false
@@ -274,7 +298,7 @@ module _ (N : Names) (types : Sub) (s : ℕ → Size) (home : ℕ → ℕ) where
     Sized (Use (ref.Bound b) at k) lo G = ((t : Size) × (G.sizes b.0 ≡ Some t) × Suits t (s lo)) ⊎ ((t : Size) × (G.schemes b.0 ≡ Some t) × Filled_use (G.general b.0) t (s lo))
     Sized (Use (ref.Prim p) at k) lo G = Filled_use (λ v. true) (prim_size p) (s lo)
     Sized (Use (ref.Scalar t) at k) lo G = ⊥
-    Sized (Strict o mark ts) lo G = All_sized ts (lo + own_numbers o) (lo + own_numbers o + all_numbers ts) G × (operation N types o lo (lo + own_numbers o) ts (part_sizes ts (lo + own_numbers o)) ≡ Ok (s lo))
+    Sized (Strict o mark ts) lo G = All_sized ts (lo + own_numbers o) (lo + own_numbers o + all_numbers ts) G × (operation N types o lo (lo + own_numbers o) ts (part_sizes ts (lo + own_numbers o)) ≡ Ok (s lo)) × Compared_found o G
     Sized (Lambda no_pattern e) lo G = ⊥
     Sized (Lambda ps e) lo G = Takes (Sized e (1 + lo + all_pattern_numbers ps)) (all_part_names ps) ps lo (1 + lo) (1 + lo + all_pattern_numbers ps) (1 + lo + all_pattern_numbers ps + numbers e) (s lo) G
     Sized (Apply f e) lo G = Sized f (1 + lo) G × Sized e (1 + lo + numbers f) G × Applies e lo (1 + lo + numbers f) (1 + lo + numbers f + numbers e) G

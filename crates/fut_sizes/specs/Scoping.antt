@@ -24,6 +24,10 @@ pub record Context : Type 0 where
   pub finds : Free → Bool
   pub finds_types : Variable → Bool
 
+-- outside of all definitions
+abbrev pub nothing_known : Context
+nothing_known = record { sizes = λ b. None; schemes = λ b. None; general = λ b v. false; finds = λ d. false; finds_types = λ v. false }
+
 abbrev pub is_name : ℕ → Free → Bool
 is_name b (Name c) = nat_eq b c
 is_name b d = false

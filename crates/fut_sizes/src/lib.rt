@@ -5,7 +5,8 @@
 //! order of evaluation, the sized type of each node or the first refusal. It is told in words of `specs/Agreeing.antt` (what is
 //! refused, and what becomes of sizes), `specs/WrittenSizes.antt`, `specs/Operations.antt`, `specs/Scopes.antt` (names and
 //! patterns), `specs/Functions.antt` (the sizes that a function type binds), `specs/Matching.antt` and
-//! `specs/Applications.antt`. `specs/Suiting.antt` says when a value of one sized type may stand where another is wanted.
+//! `specs/Applications.antt`. `specs/Suiting.antt` says when a value of one sized type may stand where another is wanted. `specs/Rules.antt` and
+//! `specs/ProgramRules.antt` have one rule a form, which a sizing of a term and of a program is judged by.
 //! `proofs/Programs.antt` has programs with what they are answered.
 #![tactic(auto)]
 

@@ -30,6 +30,7 @@ use Rattle.sized_meaning.specs.Fits.{word, Fits}
 use Rattle.sized_meaning.specs.Law.{Sound, One_type, World, calls, Beyond, Env_fits}
 use Rattle.sized_meaning.proofs.Reading.{fits_same, each_as}
 use Rattle.std.proofs.lemmas.Bool.{ne_eqb}
+use Rattle.sized_meaning.proofs.Known.{tells_one}
 use Rattle.sized_meaning.proofs.Suiting.{at_node, free_is, function_of}
 use Rattle.sized_meaning.proofs.Finding.{some_same, none_no, some_place, some_else, from_place, either, data_formed, data_reads, told_right, size_scoped, size_right, type_right, size_placed, type_placed}
 use Rattle.sized_meaning.proofs.Entered.{both_true, fits_read}
@@ -309,7 +310,7 @@ module _ (N : Names) (types : Sub) (τ : Meant) (W : World) where
     told_reads k p r v f e h =
         let b = both_true (is_known p) (gives_chosen k r) e in
         let z = low_data k r b.1 in
-        data_reads N τ m (push none_chosen no_frames) r _ ((function_of N τ W.sizing (calls W) m k p r v h).0.1 z.0 z.1 none_chosen (chosen_shape W.sizing.fields p) (known_shape p b.0 f))
+        data_reads N τ m (push none_chosen no_frames) r _ (tells_one N τ W.sizing m no_frames k p r v z.0 z.1 (function_of N τ W.sizing (calls W) m k p r v h).0 none_chosen (chosen_shape W.sizing.fields p) (known_shape p b.0 f))
 
     results_right : (t : Size) (v : FlatValue) (V : Found) → Well_formed W.sizing.fields t → Apart lo hi t → Of m t v → Right_before V → Right_before (with_results W.sizing.fields t (tells W.sizing v) V)
     unfolding with_results Well_formed Each

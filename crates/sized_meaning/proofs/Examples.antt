@@ -163,7 +163,7 @@ module _ (N : Names) (named : AreNames N) (τ : Variable → Shape) (one : One_s
 
   five_sized : Sized N five_types five_sizes home iota_five 0 nothing_known
   unfolding operation of_type of_types erased all_erased
-  five_sized = (iota_used, (tt, refl), five_applies)
+  five_sized = (iota_used, (tt, refl, tt), five_applies)
 
   five_env : (m : Worth) → Env_fits N five_types (exactly τ) (five_world tops) 0 3 m nothing_known (base tt)
   unfolding found
@@ -253,7 +253,7 @@ module _ (N : Names) (types : Sub) (tops : FlatTops) where
   halves_sized : Sized N types half_sizes half_home halves 0 half_context
   unfolding Each Each_all replaced all_replaced operation Pattern_takes takes stands
   halves_sized = (
-    ((inl (row_of_n, refl, suits_same), row_away 6 7 (omega arith), (inl (row_of_n, refl, suits_same), row_away 7 7 (omega arith), tt)), refl),
+    ((inl (row_of_n, refl, suits_same), row_away 6 7 (omega arith), (inl (row_of_n, refl, suits_same), row_away 7 7 (omega arith), tt)), refl, tt),
     inl (
       record {
         what = λ c. Name c;

@@ -21,16 +21,18 @@ use Rattle.fut_meaning.proofs.Data.{datum_of_as}
 use Rattle.fut_meaning.proofs.Safe.{Every}
 use Rattle.sized_types.specs.Sizes.{Dim, Size, Level, Fun}
 use Rattle.fut_sizes.specs.Suiting.{Data}
+use Rattle.fut_sizes.specs.Rules.{Any_free}
 use Rattle.sized_meaning.specs.Worth.{Worth, Frames, push, number}
 use Rattle.sized_meaning.specs.Shapes.{Meant, Has_shape, Has_datum}
 use Rattle.sized_meaning.specs.Finding.{One_kind_each}
-use Rattle.sized_meaning.specs.Fits.{Out_fits, Gives, word, Tells_right, Fits}
+use Rattle.sized_meaning.specs.Fits.{Out_fits, Gives, word, Known_result, Told_right, Fits}
 use Rattle.sized_meaning.specs.Law.{Sound, World, told, means, calls}
 use Rattle.sized_meaning.proofs.Outcomes.{gives_exact, gives_then, out_of}
 use Rattle.sized_meaning.proofs.Scalars.{out_then}
 use Rattle.sized_meaning.proofs.Datas.{value_same, the_value, datum_fits, fits_datum}
 use Rattle.sized_meaning.proofs.Entered.{value_shaped}
 use Rattle.sized_meaning.proofs.Reducing.{not_function}
+use Rattle.sized_meaning.proofs.Known.{told_here, Tells_one, one_tells}
 use Rattle.sized_meaning.proofs.Mapping.{array_of_rows, weighed}
 
 -- a value that is data is worth what that is
@@ -125,9 +127,9 @@ module _ (N : Names) (types : Sub) (τ : Meant) (W : World) (S : Sound N types W
         (λ ds q. subst (λ z. Gives (Given k F φ r) (Then (the (job false (row_told ((flat_names (told W)).lang W.tops) (Of_function p no_function z)) p at z)) (job_of ((flat_names (told W)).lang W.tops) (plain W.tight) W.budget (means W) 0 no_function))) (sym q.1)
         (done_gives (Met k F φ r) (Given k F φ r) 0 no_function _ (jobs F _ q.0 q.2) (λ x y. (y.0, y.1, datum_fits N τ W.sizing (calls W) m (push y.0 φ) r data_r (as_value x) x (datum_of_as Ref BindId (Unit {0}) x) y.2)))))
 
-    pub one_fits : Tells_right N τ W.sizing m φ k a r (Primitive_value p at no_value) → Fits N τ W.sizing (calls W) m φ (Fun k a r) (Primitive_value p at no_value)
+    pub one_fits : Tells_one N τ W.sizing m φ k a r (Primitive_value p at no_value) data_r → Fits N τ W.sizing (calls W) m φ (Fun k a r) (Primitive_value p at no_value)
     unfolding Fits
-    one_fits t = (t, λ F v e h. one_gives F v e h)
+    one_fits t = (one_tells N τ W.sizing m φ k a r (Primitive_value p at no_value) data_r t, λ F v e h. one_gives F v e h)
 
   -- ---- of two arguments
   module _ (p : Primitive) (at : Place) (φ : Frames) (k l : ℕ) (a b r : Size) (data_a : Data a) (data_b : Data b) (data_r : Data r)
@@ -144,27 +146,30 @@ module _ (N : Names) (types : Sub) (τ : Meant) (W : World) (S : Sound N types W
         (λ ds q. subst (λ z. Gives (Given l G (push F φ) r) (Then (the (job false (row_told ((flat_names (told W)).lang W.tops) (Of_function p no_function z)) p at z)) (job_of ((flat_names (told W)).lang W.tops) (plain W.tight) W.budget (means W) 0 no_function))) (sym q.2)
         (done_gives (Met l G (push F φ) r) (Given l G (push F φ) r) 0 no_function _ (jobs F G _ q.0 q.1 q.3 q.4) (λ x y. (y.0, y.1, datum_fits N τ W.sizing (calls W) m (push y.0 (push F φ)) r data_r (as_value x) x (datum_of_as Ref BindId (Unit {0}) x) y.2)))))
 
-    pub two_fits : ((F : ℕ → ℕ) (v : FlatValue) → F k ≡ word v → Fits N τ W.sizing (calls W) m (push F φ) a v → Tells_right N τ W.sizing m (push F φ) l b r (Primitive_value p at (value_and v no_value))) → Fits N τ W.sizing (calls W) m φ (Fun k a (Fun l b r)) (Primitive_value p at no_value)
-    unfolding Fits Data
-    two_fits t = (
-      (refl, λ dr. absurd dr),
+    -- what is told without arguments, and with the first
+    pub two_fits : (Known_result Any_free (l ∷ k ∷ []) r → (F : ℕ → ℕ) (h : Shape) → Has_shape N τ m (push F φ) a h → (G : ℕ → ℕ) (g : Shape) → Has_shape N τ m (push G (push F φ)) b g
+        → Has_shape N τ m (push G (push F φ)) r (by_function (function_tells W.sizing {P = Ref} {B = BindId} {S = Unit {0}} no_value) (primitive_tells p ((h, None) ∷ (g, None) ∷ []))))
+        → ((F : ℕ → ℕ) (v : FlatValue) → F k ≡ word v → Fits N τ W.sizing (calls W) m (push F φ) a v → Tells_one N τ W.sizing m (push F φ) l b r (Primitive_value p at (value_and v no_value)) data_r) → Fits N τ W.sizing (calls W) m φ (Fun k a (Fun l b r)) (Primitive_value p at no_value)
+    unfolding Fits Known_result Told_right tells data_told
+    two_fits none t = (
+      (refl, λ known F h hh G g hg. told_here N τ m (push G (push F φ)) r data_r (λ hs. tells W.sizing {P = Ref} {B = BindId} {S = Unit {0}} (Primitive_value p at no_value) (h ∷ g ∷ hs)) (none known.1 F h hh G g hg)),
       λ F v e h. starts _ v (gives_exact (λ w. (F' : ℕ → ℕ) × ((i : ℕ) → i ≤ k → F' i ≡ F i) × Fits N τ W.sizing (calls W) m (push F' φ) (Fun l b r) w) 0 (Val (Primitive_value p at (value_and v no_value)))
-          (F, (λ i l. refl), (t F v e h, λ G w e' h'. two_gives F v e h G w e' h'))),
+          (F, (λ i l. refl), (one_tells N τ W.sizing m (push F φ) l b r (Primitive_value p at (value_and v no_value)) data_r (t F v e h), λ G w e' h'. two_gives F v e h G w e' h'))),
     )
 
   -- what one tells that has its first argument, from the shapes of both
   pub second_tells : (p : Primitive) (at : Place) (φ : Frames) (l : ℕ) (a b r : Size) (v : FlatValue) → Data a → Fits N τ W.sizing (calls W) m φ a v
       → ((G : ℕ → ℕ) (h g : Shape) → Has_shape N τ m φ a h → Has_shape N τ m (push G φ) b g → Has_shape N τ m (push G φ) r (by_function (function_tells W.sizing (value_and v no_value)) (primitive_tells p ((h, worth_of v) ∷ (g, None) ∷ []))))
-      → Tells_right N τ W.sizing m φ l b r (Primitive_value p at (value_and v no_value))
+      → (data_r : Data r) → Tells_one N τ W.sizing m φ l b r (Primitive_value p at (value_and v no_value)) data_r
   unfolding tells data_told
-  second_tells p at φ l a b r v data_a hv law = (
+  second_tells p at φ l a b r v data_a hv law data_r = (
     refl,
     λ dr low G g hg. subst (λ c. Has_shape N τ m (push G φ) r (by_function (function_tells W.sizing (value_and v no_value)) (primitive_tells p (cond c ((g, None) ∷ []) ((value_shape v, worth_of v) ∷ (g, None) ∷ []))))) (sym (not_function N types τ W S one m φ a v data_a hv))
         (law G (value_shape v) g (value_shaped N τ W.sizing (calls W) m φ a data_a v hv) hg),
   )
 
   -- ---- of three arguments
-  module _ (p : Primitive) (at : Place) (φ : Frames) (k l n : ℕ) (a b c r : Size) (data_a : Data a) (data_b : Data b) (data_c : Data c)
+  module _ (p : Primitive) (at : Place) (φ : Frames) (k l n : ℕ) (a b c r : Size) (data_a : Data a) (data_b : Data b) (data_c : Data c) (data_r : Data r)
       (starts : (Q : FlatValue → Type 0) (u : FlatValue) → Gives Q (gives 0 (Primitive_value p at (value_and u no_value))) → Gives Q (calls W (Primitive_value p at no_value) u))
       (waits : (Q : FlatValue → Type 0) (u v : FlatValue) → Gives Q (gives 0 (Primitive_value p at (value_and u (value_and v no_value)))) → Gives Q (calls W (Primitive_value p at (value_and u no_value)) v))
       (runs : (Q : FlatValue → Type 0) (u v w : FlatValue) → Gives Q (Runs p at (Data_three u v w)) → Gives Q (calls W (Primitive_value p at (value_and u (value_and v no_value))) w))
@@ -190,20 +195,29 @@ module _ (N : Names) (types : Sub) (τ : Meant) (W : World) (S : Sound N types W
         (λ ds q. subst (λ z. Gives (Given n H (push G (push F φ)) r) (Then (the (job false (row_told ((flat_names (told W)).lang W.tops) (Of_function p no_function z)) p at z)) (job_of ((flat_names (told W)).lang W.tops) (plain W.tight) W.budget (means W) 0 no_function))) (sym q.3)
         (jobs F G H _ q.0 q.1 q.2 q.4 q.5 q.6)))
 
-    pub three_fits : ((F : ℕ → ℕ) (u : FlatValue) → F k ≡ word u → Fits N τ W.sizing (calls W) m (push F φ) a u → (G : ℕ → ℕ) (v : FlatValue) → G l ≡ word v → Fits N τ W.sizing (calls W) m (push G (push F φ)) b v → Tells_right N τ W.sizing m (push G (push F φ)) n c r (Primitive_value p at (value_and u (value_and v no_value))))
+    -- what is told without arguments, with the first, and with two
+    pub three_fits : (Known_result Any_free (n ∷ l ∷ k ∷ []) r → (F : ℕ → ℕ) (h : Shape) → Has_shape N τ m (push F φ) a h → (G : ℕ → ℕ) (g : Shape) → Has_shape N τ m (push G (push F φ)) b g → (H : ℕ → ℕ) (x : Shape) → Has_shape N τ m (push H (push G (push F φ))) c x
+        → Has_shape N τ m (push H (push G (push F φ))) r (by_function (function_tells W.sizing {P = Ref} {B = BindId} {S = Unit {0}} no_value) (primitive_tells p ((h, None) ∷ (g, None) ∷ (x, None) ∷ []))))
+        → ((F : ℕ → ℕ) (u : FlatValue) → F k ≡ word u → Fits N τ W.sizing (calls W) m (push F φ) a u → Known_result Any_free (n ∷ l ∷ []) r → (G : ℕ → ℕ) (g : Shape) → Has_shape N τ m (push G (push F φ)) b g → (H : ℕ → ℕ) (x : Shape) → Has_shape N τ m (push H (push G (push F φ))) c x
+        → Has_shape N τ m (push H (push G (push F φ))) r (by_function (function_tells W.sizing (value_and u no_value)) (primitive_tells p ((value_shape u, worth_of u) ∷ (g, None) ∷ (x, None) ∷ []))))
+        → ((F : ℕ → ℕ) (u : FlatValue) → F k ≡ word u → Fits N τ W.sizing (calls W) m (push F φ) a u → (G : ℕ → ℕ) (v : FlatValue) → G l ≡ word v → Fits N τ W.sizing (calls W) m (push G (push F φ)) b v → Tells_one N τ W.sizing m (push G (push F φ)) n c r (Primitive_value p at (value_and u (value_and v no_value))) data_r)
         → Fits N τ W.sizing (calls W) m φ (Fun k a (Fun l b (Fun n c r))) (Primitive_value p at no_value)
-    unfolding Fits Data
-    three_fits t = (
-      (refl, λ dr. absurd dr),
+    unfolding Fits Known_result Told_right tells data_told
+    three_fits none first t = (
+      (refl, λ known F h hh G g hg H x hx. told_here N τ m (push H (push G (push F φ))) r data_r (λ hs. tells W.sizing {P = Ref} {B = BindId} {S = Unit {0}} (Primitive_value p at no_value) (h ∷ g ∷ x ∷ hs)) (none known.1.1 F h hh G g hg H x hx)),
       λ F u eu hu. starts (λ x. (F' : ℕ → ℕ) × ((i : ℕ) → i ≤ k → F' i ≡ F i) × Fits N τ W.sizing (calls W) m (push F' φ) (Fun l b (Fun n c r)) x) u
           (gives_exact (λ x. (F' : ℕ → ℕ) × ((i : ℕ) → i ≤ k → F' i ≡ F i) × Fits N τ W.sizing (calls W) m (push F' φ) (Fun l b (Fun n c r)) x) 0 (Val (Primitive_value p at (value_and u no_value))) (
             F,
             (λ i l. refl),
             (
-              (refl, λ dr. absurd dr),
+              (
+                refl,
+                λ known G g hg H x hx. told_here N τ m (push H (push G (push F φ))) r data_r (λ hs. tells W.sizing (Primitive_value p at (value_and u no_value)) (g ∷ x ∷ hs))
+                    (subst (λ y. Has_shape N τ m (push H (push G (push F φ))) r (by_function (function_tells W.sizing (value_and u no_value)) (primitive_tells p (cond y ((g, None) ∷ (x, None) ∷ []) ((value_shape u, worth_of u) ∷ (g, None) ∷ (x, None) ∷ []))))) (sym (not_function N types τ W S one m (push F φ) a u data_a hu)) (first F u eu hu known.1 G g hg H x hx)),
+              ),
               λ G v ev hv. waits (λ x. (G' : ℕ → ℕ) × ((i : ℕ) → i ≤ l → G' i ≡ G i) × Fits N τ W.sizing (calls W) m (push G' (push F φ)) (Fun n c r) x) u v
                   (gives_exact (λ x. (G' : ℕ → ℕ) × ((i : ℕ) → i ≤ l → G' i ≡ G i) × Fits N τ W.sizing (calls W) m (push G' (push F φ)) (Fun n c r) x) 0 (Val (Primitive_value p at (value_and u (value_and v no_value))))
-                  (G, (λ i l. refl), (t F u eu hu G v ev hv, λ H w ew hw. three_gives F u eu hu G v ev hv H w ew hw))),
+                  (G, (λ i l. refl), (one_tells N τ W.sizing m (push G (push F φ)) n c r (Primitive_value p at (value_and u (value_and v no_value))) data_r (t F u eu hu G v ev hv), λ H w ew hw. three_gives F u eu hu G v ev hv H w ew hw))),
             ),
           )),
     )
@@ -211,9 +225,9 @@ module _ (N : Names) (types : Sub) (τ : Meant) (W : World) (S : Sound N types W
   -- what one tells that has its first two arguments, from the shapes of all
   pub third_tells : (p : Primitive) (at : Place) (φ ψ χ : Frames) (l : ℕ) (a b c r : Size) (u v : FlatValue) → Data a → Data b → Fits N τ W.sizing (calls W) m ψ a u → Fits N τ W.sizing (calls W) m χ b v
       → ((G : ℕ → ℕ) (h g k : Shape) → Has_shape N τ m ψ a h → Has_shape N τ m χ b g → Has_shape N τ m (push G φ) c k → Has_shape N τ m (push G φ) r (by_function (function_tells W.sizing (value_and u (value_and v no_value))) (primitive_tells p ((h, worth_of u) ∷ (g, worth_of v) ∷ (k, None) ∷ []))))
-      → Tells_right N τ W.sizing m φ l c r (Primitive_value p at (value_and u (value_and v no_value)))
+      → (data_r : Data r) → Tells_one N τ W.sizing m φ l c r (Primitive_value p at (value_and u (value_and v no_value))) data_r
   unfolding tells data_told
-  third_tells p at φ ψ χ l a b c r u v data_a data_b hu hv law = (
+  third_tells p at φ ψ χ l a b c r u v data_a data_b hu hv law data_r = (
     refl,
     λ dr low G k hk.
         subst (λ x. Has_shape N τ m (push G φ) r (by_function (function_tells W.sizing (value_and u (value_and v no_value))) (primitive_tells p (cond x (cond (is_function v) ((k, None) ∷ []) ((value_shape v, worth_of v) ∷ (k, None) ∷ [])) ((value_shape u, worth_of u) ∷ cond (is_function v) ((k, None) ∷ []) ((value_shape v, worth_of v) ∷ (k, None) ∷ [])))))) (sym (not_function N types τ W S one m ψ a u data_a hu))

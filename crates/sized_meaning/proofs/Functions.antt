@@ -14,7 +14,7 @@ use Rattle.fut_meaning.specs.Accessors.{bound}
 use Rattle.fut_meaning.specs.Flats.{FlatValue, FlatEnv}
 use Rattle.fut_meaning.specs.Places.{size_place, type_place, size_of, at_path}
 use Rattle.fut_meaning.specs.Found.{Found, result_shape, number, shape_found, told_shape, with_data}
-use Rattle.fut_meaning.specs.Telling.{found, closure_tells, tells}
+use Rattle.fut_meaning.specs.Telling.{found, closure_tells, nodes_from, tells}
 use Rattle.fut_meaning.specs.Outcomes.{Val}
 use Rattle.fut_meaning.specs.Values.{Closure, Evaluate, Call}
 use Rattle.sized_types.specs.Sizes.{Free, Const, Name, Own, Unknown, Slot, Dim, At, Bound, Variable, Size, Hole, Open, Level, Built, Fun, Sizes, no_size, size_and, replaced, all_replaced, has, some_has, given, renaming, opened, renamed}
@@ -25,17 +25,19 @@ use Rattle.fut_sizes.specs.Scopes.{i64_size, names}
 use Rattle.fut_sizes.specs.Scoping.{Context, with_entered, with_positions, with_pattern}
 use Rattle.fut_sizes.specs.Sizing.{part_names, all_part_names}
 use Rattle.fut_sizes.specs.Suiting.{Each, Each_all, Scoped, Of_positions, Data}
-use Rattle.fut_sizes.specs.Rules.{Inside, Away, Each_hole, Binder, Tells_size, Tells_type, Telling, Takes, Sized, Named_value}
+use Rattle.fut_sizes.specs.Rules.{Any_free, Inside, Away, Each_hole, Binder, Tells_size, Tells_type, Telling, Takes, Sized, Named_value}
 use Rattle.sized_meaning.specs.Worth.{Worth, free, no_frames, push}
 use Rattle.sized_meaning.specs.Shapes.{Meant, Has_shape}
 use Rattle.sized_meaning.specs.Finding.{One_kind_each, Well_formed}
 use Rattle.sized_meaning.specs.Entered.{Is_found, Type_is_found}
-use Rattle.sized_meaning.specs.Fits.{Out_fits, Gives, word, Fits}
+use Rattle.sized_meaning.specs.Fits.{Out_fits, Gives, word, Flat_result, Known_result, Told_right, Tells_right, Fits}
 use Rattle.sized_meaning.specs.Law.{Sound, Name_home, Simple, All_simple, Leaves, World, told, means, calls, Beyond as Out_beyond, Env_fits, Result as Res}
 use Rattle.sized_meaning.proofs.Ways.{gives_as}
 use Rattle.sized_meaning.proofs.Outcomes.{gives_exact, gives_then}
-use Rattle.sized_meaning.proofs.Reading.{each_and, each_replaced, each_as, each_data, each_hole_as, data_replaced, shape_same, shape_opened, opened_shape, shape_renamed_in, fits_same, fits_opened, opened_fits, fits_renamed}
+use Rattle.sized_meaning.proofs.Reading.{flat_result_replaced, each_and, each_replaced, each_as, each_data, each_hole_as, data_replaced, shape_same, shape_opened, opened_shape, shape_renamed_in, fits_same, fits_opened, opened_fits, fits_renamed}
 use Rattle.sized_meaning.proofs.Suiting.{a_function}
+use Rattle.sized_meaning.proofs.Known.{known_low, known_cases, told_here}
+use Rattle.sized_meaning.proofs.Flats.{always_right, always_opened, closure_always}
 use Rattle.sized_meaning.proofs.Finding.{some_same, none_no, some_place, some_else, data_formed, data_reads, size_placed, type_placed}
 use Rattle.sized_meaning.proofs.Datas.{shaped_data}
 use Rattle.sized_meaning.proofs.Entered.{data_right, told_found}
@@ -454,12 +456,12 @@ module _ (N : Names) (types : Sub) (τ : Meant) (W : World) (S : Sound N types W
       subst (Each (λ j d. names_one parts d ≡ false) j) (sym B.function) (each_shift (λ d. names_one parts d ≡ false) B.from 1 (suc j) from_part, each_shift (λ d. names_one parts d ≡ false) B.to 1 (suc j) to_part)
 
   -- one that waits for more arguments
-  waits_fits : (ps : Patterns Ref BindId) (p p2 : FlatPattern) (e : FlatTerm) (parts : List ℕ) (lo q at hi : ℕ) (u : Size) (G : Context) (env : FlatEnv) (m : Worth) (z : q + pattern_numbers p ≤ at) (le : at ≤ hi) (before : 1 + lo ≤ q) (B : Binder N types W.sizing.size_at W.sizing.home lo at hi p q u) → (Data B.to → ⊥) → Simple W.sizing p q → Env_of q hi m G env → at - all_pattern_numbers (pattern_and p (pattern_and p2 ps)) ≡ q
+  waits_fits : (ps : Patterns Ref BindId) (p p2 : FlatPattern) (e : FlatTerm) (parts : List ℕ) (lo q at hi : ℕ) (u : Size) (G : Context) (env : FlatEnv) (m : Worth) (z : q + pattern_numbers p ≤ at) (le : at ≤ hi) (before : 1 + lo ≤ q) (B : Binder N types W.sizing.size_at W.sizing.home lo at hi p q u) → Tells_right N τ W.sizing m no_frames B.chosen B.from B.to (Closure (pattern_and p (pattern_and p2 ps)) e at env) → Simple W.sizing p q → Env_of q hi m G env → at - all_pattern_numbers (pattern_and p (pattern_and p2 ps)) ≡ q
       → (sub : (c : ℕ) → is_among parts c ≡ false → is_among (part_names p) c ≡ false) → has (names_one parts) (W.sizing.size_at q) ≡ false → Each (λ j d. names_one parts d ≡ false) 1 (opened B.inside B.to)
       → ((F : ℕ → ℕ) (v : FlatValue) (x : FlatEnv) → Env_of (q + pattern_numbers p) hi (parts_by p v (placed_as B.position F m)) (with_pattern W.sizing.size_at p q (with_positions B.position G)) x → Of (parts_by p v (placed_as B.position F m)) (opened B.inside B.to) (Closure (pattern_and p2 ps) e at x))
       → Of m u (Closure (pattern_and p (pattern_and p2 ps)) e at env)
-  waits_fits ps p p2 e parts lo q at hi u G env m z le before B no_data simple E node sub unnamed apart_to inner = subst (λ x. Of m x (Closure (pattern_and p (pattern_and p2 ps)) e at env)) (sym B.function)
-      (a_function N τ W.sizing (calls W) m B.chosen B.from B.to (Closure (pattern_and p (pattern_and p2 ps)) e at env) (refl, λ dr. absurd (no_data dr)) (λ F v eF h. evaluates N types τ W S one (Given_back lo at hi p q u B z le m F) (Call (Closure (pattern_and p (pattern_and p2 ps)) e at env) v)
+  waits_fits ps p p2 e parts lo q at hi u G env m z le before B tells_all simple E node sub unnamed apart_to inner = subst (λ x. Of m x (Closure (pattern_and p (pattern_and p2 ps)) e at env)) (sym B.function)
+      (a_function N τ W.sizing (calls W) m B.chosen B.from B.to (Closure (pattern_and p (pattern_and p2 ps)) e at env) tells_all (λ F v eF h. evaluates N types τ W S one (Given_back lo at hi p q u B z le m F) (Call (Closure (pattern_and p (pattern_and p2 ps)) e at env) v)
       (gives_then (λ x. Env_of (q + pattern_numbers p) hi (parts_by p v (placed_as B.position F m)) (with_pattern W.sizing.size_at p q (with_positions B.position G)) x) (Given_back lo at hi p q u B z le m F) _ _
       (gives_exact _ 0 _ (entered_fits lo at hi p q u B z le m F G env v simple E eF h (at - all_pattern_numbers (pattern_and p (pattern_and p2 ps))) node parts sub unnamed))
       (λ x E'. gives_exact (Given_back lo at hi p q u B z le m F) 0 (Val (Closure (pattern_and p2 ps) e at x)) (back lo at hi p q u B z le m F before parts sub v (parts_by p v (placed_as B.position F m)) (λ d o o'. refl) (Closure (pattern_and p2 ps) e at x) apart_to (inner F v x E'))))))
@@ -502,6 +504,18 @@ module _ (N : Names) (types : Sub) (τ : Meant) (W : World) (S : Sound N types W
   unfolding Data
   no_function_data k p r d = d
 
+  -- what one tells that gives no arrays in the end
+  closure_tells_flat : (ps : Patterns Ref BindId) (p : FlatPattern) (e : FlatTerm) (parts : List ℕ) (lo q at hi : ℕ) (u : Size) (G : Context) (env : FlatEnv) (m : Worth) → at - (pattern_numbers p + all_pattern_numbers ps) ≡ q → (B : Binder N types W.sizing.size_at W.sizing.home lo at hi p q u)
+      → (has (names_one parts) (W.sizing.size_at q) ≡ false) × Telling N types W.sizing.size_at W.sizing.home ps q at B.chosen B.from B.to G × Takes N types W.sizing.size_at W.sizing.home (Sized N types W.sizing.size_at W.sizing.home e at) parts ps lo (q + pattern_numbers p) at hi (opened B.inside B.to) (with_pattern W.sizing.size_at p q (with_positions B.position G))
+      → Flat_result B.to → (F : ℕ → ℕ) (h : Shape) → Told_right N τ m (push F no_frames) B.to (λ hs. tells W.sizing (Closure (pattern_and p ps) e at env) (h ∷ hs))
+  unfolding tells closure_tells
+  closure_tells_flat ps p e parts lo q at hi u G env m node B taken flat F h =
+      subst (λ y. Told_right N τ m (push F no_frames) B.to (λ hs. closure_tells W.sizing (y ∷ nodes_from ps (y + pattern_numbers p)) at (h ∷ hs) (found W.sizing env))) (sym node)
+      (always_right N types τ W S m no_frames (push F no_frames) B.to (λ hs. closure_tells W.sizing (nodes_from ps (q + pattern_numbers p)) at hs (with_data W.sizing.fields (W.sizing.size_at q) h (found W.sizing env))) flat
+      (always_opened N types τ W S m m no_frames no_frames B.inside B.to (λ hs. closure_tells W.sizing (nodes_from ps (q + pattern_numbers p)) at hs (with_data W.sizing.fields (W.sizing.size_at q) h (found W.sizing env))) flat
+      (closure_always N types τ W S (Sized N types W.sizing.size_at W.sizing.home e at) parts ps lo (q + pattern_numbers p) at hi (opened B.inside B.to) (with_pattern W.sizing.size_at p q (with_positions B.position G)) (with_data W.sizing.fields (W.sizing.size_at q) h (found W.sizing env)) m no_frames taken.2
+      ((flat_result_replaced (given B.inside) B.to 1).0 flat))))
+
   pub closure_fits : (ps : Patterns Ref BindId) (p : FlatPattern) (e : FlatTerm) (parts : List ℕ) (lo q at hi : ℕ) (u : Size) (G : Context) (env : FlatEnv) (m : Worth) → All_simple W.sizing (pattern_and p ps) q → ((c : ℕ) → is_among parts c ≡ false → is_among (all_part_names (pattern_and p ps)) c ≡ false) → Leaves N types W parts lo at → 1 + lo ≤ q → q + (pattern_numbers p + all_pattern_numbers ps) ≡ at → at ≤ hi → Body_law e at hi
       → Takes N types W.sizing.size_at W.sizing.home (Sized N types W.sizing.size_at W.sizing.home e at) parts (pattern_and p ps) lo q at hi u G → Env_of q hi m G env → Of m u (Closure (pattern_and p ps) e at env)
   closure_fits no_pattern p e parts lo q at hi u G env m simple sub leaves before z le body (B, unnamed, telling, (inside_parameter, same, sized)) E =
@@ -509,7 +523,7 @@ module _ (N : Names) (types : Sub) (τ : Meant) (W : World) (S : Sound N types W
       let first : (c : ℕ) → is_among parts c ≡ false → is_among (part_names p) c ≡ false = λ c e. among_first (part_names p) [] c (sub c e) in
       let apart_to : Each (λ j d. names_one parts d ≡ false) 1 (opened B.inside B.to) = takes_unnamed (Sized N types W.sizing.size_at W.sizing.home e at) parts no_pattern lo (q + pattern_numbers p) at hi (opened B.inside B.to) (with_pattern W.sizing.size_at p q (with_positions B.position G)) (inside_parameter, same, sized) 1 in
       subst (λ x. Of m x (Closure (pattern_and p no_pattern) e at env)) (sym B.function)
-      (a_function N τ W.sizing (calls W) m B.chosen B.from B.to (Closure (pattern_and p no_pattern) e at env) (refl, λ dr names_low F h hx. last_tells p e parts lo q at hi u G env m (omega (arith, z)) le before B telling same E node dr names_low F h hx)
+      (a_function N τ W.sizing (calls W) m B.chosen B.from B.to (Closure (pattern_and p no_pattern) e at env) (refl, λ known F h hx. by_result known F h hx (known_cases Any_free (B.chosen ∷ []) B.to known))
       (λ F v eF h. evaluates N types τ W S one (Given_back lo at hi p q u B (omega (arith, z)) le m F) (Call (Closure (pattern_and p no_pattern) e at env) v)
       (gives_then (λ x. Env_of (q + pattern_numbers p) hi (parts_by p v (placed_as B.position F m)) (with_pattern W.sizing.size_at p q (with_positions B.position G)) x) (Given_back lo at hi p q u B (omega (arith, z)) le m F) _ _
       (gives_exact _ 0 _ (entered_fits lo at hi p q u B (omega (arith, z)) le m F G env v simple.0 E eF h (at - all_pattern_numbers (pattern_and p no_pattern)) node parts first unnamed))
@@ -517,9 +531,21 @@ module _ (N : Names) (types : Sub) (τ : Meant) (W : World) (S : Sound N types W
       (body (with_pattern W.sizing.size_at p q (with_positions B.position G)) x (parts_by p v (placed_as B.position F m)) sized (env_moves N types τ W (q + pattern_numbers p) hi at hi (parts_by p v (placed_as B.position F m)) (parts_by p v (placed_as B.position F m)) (with_pattern W.sizing.size_at p q (with_positions B.position G)) x (omega (arith, z)) (omega arith) (λ d o. refl) E'))
       (λ w r. let y = parts_leave lo at hi parts (parts_by p v (placed_as B.position F m)) w (omega (arith, before, z)) le leaves r in
       back lo at hi p q u B (omega (arith, z)) le m F before parts first v y.0 y.1 w apart_to (subst (λ x. Of y.0 x w) (sym same) y.2))))))
+    where
+      flat_tells : Flat_result B.to → (F : ℕ → ℕ) (h : Shape) → Told_right N τ m (push F no_frames) B.to (λ hs. tells W.sizing (Closure (pattern_and p no_pattern) e at env) (h ∷ hs))
+      flat_tells fl F h = closure_tells_flat no_pattern p e parts lo q at hi u G env m (omega (arith, z)) B (unnamed, telling, (inside_parameter, same, sized)) fl F h
+
+      by_result : Known_result Any_free (B.chosen ∷ []) B.to → (F : ℕ → ℕ) (h : Shape) → Has_shape N τ m (push F no_frames) B.from h → Data B.to ⊎ Flat_result B.to → Told_right N τ m (push F no_frames) B.to (λ hs. tells W.sizing (Closure (pattern_and p no_pattern) e at env) (h ∷ hs))
+      by_result known F h hx (inl d) = told_here N τ m (push F no_frames) B.to d (λ hs. tells W.sizing (Closure (pattern_and p no_pattern) e at env) (h ∷ hs))
+          (last_tells p e parts lo q at hi u G env m (omega (arith, z)) le before B telling same E (let y : at - (pattern_numbers p + 0) ≡ q = omega (arith, z) in y) d (known_low Any_free B.chosen B.to known) F h hx)
+      by_result known F h hx (inr fl) = flat_tells fl F h
   closure_fits (pattern_and p2 ps) p e parts lo q at hi u G env m simple sub leaves before z le body (B, unnamed, told, more) E =
       let node : at - (pattern_numbers p + (pattern_numbers p2 + all_pattern_numbers ps)) ≡ q = omega (arith, z) in
       let first : (c : ℕ) → is_among parts c ≡ false → is_among (part_names p) c ≡ false = λ c e. among_first (part_names p) (all_part_names (pattern_and p2 ps)) c (sub c e) in
-      waits_fits ps p p2 e parts lo q at hi u G env m (omega (arith, z)) le before B (λ d. no_function_data _ _ _ (subst Data more.0.function ((data_replaced (given B.inside) B.to 1).0 d))) simple.0 E node first unnamed
+      waits_fits ps p p2 e parts lo q at hi u G env m (omega (arith, z)) le before B (refl, λ known F h hx. by_result F h (known_cases Any_free (B.chosen ∷ []) B.to known)) simple.0 E node first unnamed
       (takes_unnamed (Sized N types W.sizing.size_at W.sizing.home e at) parts (pattern_and p2 ps) lo (q + pattern_numbers p) at hi (opened B.inside B.to) (with_pattern W.sizing.size_at p q (with_positions B.position G)) more 1)
       (λ F v x E'. closure_fits ps p2 e parts lo (q + pattern_numbers p) at hi (opened B.inside B.to) (with_pattern W.sizing.size_at p q (with_positions B.position G)) x (parts_by p v (placed_as B.position F m)) simple.1 (λ c e. among_later (part_names p) (all_part_names (pattern_and p2 ps)) c (sub c e)) leaves (omega (arith, before)) (omega (arith, z)) le body more E')
+    where
+      by_result : (F : ℕ → ℕ) (h : Shape) → Data B.to ⊎ Flat_result B.to → Told_right N τ m (push F no_frames) B.to (λ hs. tells W.sizing (Closure (pattern_and p (pattern_and p2 ps)) e at env) (h ∷ hs))
+      by_result F h (inl d) = absurd (no_function_data _ _ _ (subst Data more.0.function ((data_replaced (given B.inside) B.to 1).0 d)))
+      by_result F h (inr fl) = closure_tells_flat (pattern_and p2 ps) p e parts lo q at hi u G env m (omega (arith, z)) B (unnamed, told, more) fl F h

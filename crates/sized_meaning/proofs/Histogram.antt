@@ -13,7 +13,7 @@ use Rattle.fut_meaning.specs.Flats.{FlatValue, flat_names}
 use Rattle.fut_meaning.specs.Jobs.{Reduce_each, Reduces, places, in_place_of, job}
 use Rattle.fut_meaning.specs.Meaning.{plain, job_of, row_told, Of_function, called_on}
 use Rattle.fut_meaning.specs.Outcomes.{Out, Val, and_then, gives, the, Then}
-use Rattle.fut_meaning.specs.Telling.{by_function, first_shape, worth_of, value_shape, data_told, tells, function_tells, primitive_tells}
+use Rattle.fut_meaning.specs.Telling.{to_come, by_function, first_shape, worth_of, value_shape, data_told, tells, function_tells, primitive_tells}
 use Rattle.fut_meaning.specs.Values.{Primitive_value, no_value, value_and, Call}
 use Rattle.fut_meaning.proofs.Data.{datum_of_as}
 use Rattle.fut_meaning.proofs.Safe.{Every}
@@ -21,10 +21,10 @@ use Rattle.sized_types.specs.Sizes.{Bound, Size, Level, Fun}
 use Rattle.fut_sizes.specs.Scopes.{i64_size}
 use Rattle.fut_sizes.specs.Suiting.{Each, Scoped, Data}
 use Rattle.fut_sizes.specs.Rules.{Any_free}
-use Rattle.sized_meaning.specs.Worth.{Worth, Frames, push}
+use Rattle.sized_meaning.specs.Worth.{Worth, Frames, push, number}
 use Rattle.sized_meaning.specs.Shapes.{Meant, Has_shape, Has_datum}
 use Rattle.sized_meaning.specs.Finding.{One_kind_each}
-use Rattle.sized_meaning.specs.Fits.{Out_fits, Gives, Tells_right, Fits}
+use Rattle.sized_meaning.specs.Fits.{FlatValues, Out_fits, Gives, Told_right, Fits}
 use Rattle.sized_meaning.specs.Law.{Sound, World, told, means, calls}
 use Rattle.sized_meaning.proofs.Ways.{out_as}
 use Rattle.sized_meaning.proofs.Outcomes.{gives_exact, gives_then, out_of}
@@ -32,6 +32,7 @@ use Rattle.sized_meaning.proofs.Scalars.{out_then}
 use Rattle.sized_meaning.proofs.Datas.{datum_fits, fits_datum}
 use Rattle.sized_meaning.proofs.Entered.{value_shaped}
 use Rattle.sized_meaning.proofs.Applications.{evaluates}
+use Rattle.sized_meaning.proofs.Known.{Tells_one, one_tells}
 use Rattle.sized_meaning.proofs.Mapping.{every_listed, shape_anywhere, datum_anywhere}
 use Rattle.sized_meaning.proofs.Reducing.{gives_all_of, gives_reduced, combines, not_function}
 use Rattle.sized_meaning.proofs.First_order.{Given}
@@ -102,7 +103,7 @@ module _ (N : Names) (types : Sub) (τ : Meant) (W : World) (S : Sound N types W
           (λ ds q. subst (λ z. Gives (Counts J) (Then (the (job false (row_told ((flat_names (told W)).lang W.tops) (Of_function prim.ReduceByIndex f z)) prim.ReduceByIndex at z)) (job_of ((flat_names (told W)).lang W.tops) (plain W.tight) W.budget (means W) 2 f))) (sym q.4) (histogram_job J _ q.0 q.1 q.2 q.3 q.5 q.6 q.7)))
 
       -- it tells the shape of the array that it was given
-      histogram_tells : Tells_right N τ W.sizing m (push I (push H (push G (push F φ)))) 0 (Level (Bound 1 0) a) (Level (Bound 4 0) a) (Primitive_value prim.ReduceByIndex at (value_and u (value_and f (value_and ne (value_and is no_value)))))
+      histogram_tells : Tells_one N τ W.sizing m (push I (push H (push G (push F φ)))) 0 (Level (Bound 1 0) a) (Level (Bound 4 0) a) (Primitive_value prim.ReduceByIndex at (value_and u (value_and f (value_and ne (value_and is no_value))))) (data_array (Bound 4 0) a data_a)
       unfolding tells data_told primitive_tells push
       histogram_tells = (
         refl,
@@ -110,6 +111,14 @@ module _ (N : Names) (types : Sub) (τ : Meant) (W : World) (S : Sound N types W
             (sym (not_function N types τ W S one m (push F φ) (Level (Bound 0 0) a) u (data_array (Bound 0 0) a data_a) hu))
             (array_moved N types τ W S one m a data_a closed_a at (push F φ) (under J) (Bound 0 0) (Bound 4 0) (value_shape u) refl (value_shaped N τ W.sizing (calls W) m (push F φ) (Level (Bound 0 0) a) (data_array (Bound 0 0) a data_a) u hu)),
       )
+
+    -- with the array that is given the shape is told, whatever is still to come
+    array_told : (φ ψ : Frames) (F : ℕ → ℕ) (u : FlatValue) (vs : FlatValues) (hs : List Shape) → Fits N τ W.sizing (calls W) m (push F φ) (Level (Bound 0 0) a) u → number m (push F φ) (Bound 0 0) ≡ number m ψ (Bound 4 0)
+        → Has_shape N τ m ψ (Level (Bound 4 0) a) (tells W.sizing (Primitive_value prim.ReduceByIndex at (value_and u vs)) hs)
+    unfolding tells data_told primitive_tells
+    array_told φ ψ F u vs hs hu e = subst (λ c. Has_shape N τ m ψ (Level (Bound 4 0) a) (by_function (function_tells W.sizing (value_and u vs)) (first_shape (cond c (data_told vs (to_come hs)) ((value_shape u, worth_of u) ∷ data_told vs (to_come hs))))))
+        (sym (not_function N types τ W S one m (push F φ) (Level (Bound 0 0) a) u (data_array (Bound 0 0) a data_a) hu))
+        (array_moved N types τ W S one m a data_a closed_a at (push F φ) ψ (Bound 0 0) (Bound 4 0) (value_shape u) e (value_shaped N τ W.sizing (calls W) m (push F φ) (Level (Bound 0 0) a) (data_array (Bound 0 0) a data_a) u hu))
 
     -- a function that waits for more arguments
     given_now : (k : ℕ) (F : ℕ → ℕ) (φ : Frames) (r : Size) (w : FlatValue) → Fits N τ W.sizing (calls W) m (push F φ) r w → Gives (Given N types τ W S one m k F φ r) (gives 0 w)
@@ -128,21 +137,21 @@ module _ (N : Names) (types : Sub) (τ : Meant) (W : World) (S : Sound N types W
     Rest_one = Fun 0 (Fun 0 a (Fun 0 a a)) Rest_two
 
     pub reduce_by_index_fits : (φ : Frames) → Fits N τ W.sizing (calls W) m φ (Fun 1 (Level (Bound 0 0) a) (Fun 0 (Fun 0 a (Fun 0 a a)) (Fun 0 a (Fun 1 (Level (Bound 0 0) i64_size) (Fun 0 (Level (Bound 1 0) a) (Level (Bound 4 0) a)))))) (Primitive_value prim.ReduceByIndex at no_value)
-    unfolding Fits Data plain
+    unfolding Fits Told_right Has_shape push plain
     reduce_by_index_fits φ = (
-      (refl, λ dr. absurd dr),
+      (refl, λ known F h hx G g hg. absurd hg),
       λ F u eu hu. evaluates N types τ W S one (Given N types τ W S one m 1 F φ Rest_one) (Call (Primitive_value prim.ReduceByIndex at no_value) u)
           (given_now 1 F φ Rest_one (Primitive_value prim.ReduceByIndex at (value_and u no_value)) (
-            (refl, λ dr. absurd dr),
+            (refl, λ known G h hx. absurd hx),
             λ G f ef hf. evaluates N types τ W S one (Given N types τ W S one m 0 G (push F φ) Rest_two) (Call (Primitive_value prim.ReduceByIndex at (value_and u no_value)) f)
                 (given_now 0 G (push F φ) Rest_two (Primitive_value prim.ReduceByIndex at (value_and u (value_and f no_value))) (
-                  (refl, λ dr. absurd dr),
+                  (refl, λ known H h hh I i hi J x hx. array_told φ (push J (push I (push H (push G (push F φ))))) F u (value_and f no_value) (h ∷ i ∷ x ∷ []) hu refl),
                   λ H ne en hn. evaluates N types τ W S one (Given N types τ W S one m 0 H (push G (push F φ)) Rest_three) (Call (Primitive_value prim.ReduceByIndex at (value_and u (value_and f no_value))) ne)
                       (given_now 0 H (push G (push F φ)) Rest_three (Primitive_value prim.ReduceByIndex at (value_and u (value_and f (value_and ne no_value)))) (
-                        (refl, λ dr. absurd dr),
+                        (refl, λ known I i hi J x hx. array_told φ (push J (push I (push H (push G (push F φ))))) F u (value_and f (value_and ne no_value)) (i ∷ x ∷ []) hu refl),
                         λ I is ei hi. evaluates N types τ W S one (Given N types τ W S one m 1 I (push H (push G (push F φ))) Rest_four) (Call (Primitive_value prim.ReduceByIndex at (value_and u (value_and f (value_and ne no_value)))) is)
                             (given_now 1 I (push H (push G (push F φ))) Rest_four (Primitive_value prim.ReduceByIndex at (value_and u (value_and f (value_and ne (value_and is no_value)))))
-                            (histogram_tells φ F G H I u f ne is hu hf hn hi, λ J w ew hw. histogram_gives φ F G H I u f ne is hu hf hn hi J w hw)),
+                            (one_tells N τ W.sizing m (push I (push H (push G (push F φ)))) 0 (Level (Bound 1 0) a) (Level (Bound 4 0) a) (Primitive_value prim.ReduceByIndex at (value_and u (value_and f (value_and ne (value_and is no_value))))) (data_array (Bound 4 0) a data_a) (histogram_tells φ F G H I u f ne is hu hf hn hi), λ J w ew hw. histogram_gives φ F G H I u f ne is hu hf hn hi J w hw)),
                       )),
                 )),
           )),

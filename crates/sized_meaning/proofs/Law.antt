@@ -1,6 +1,6 @@
 -- Each value that a sized term may give is of its sized type.
-use Rattle.sized_meaning.proofs.Reading.{fits_same, each_as, each_hole_as}
-use Rattle.std.proofs.Common.{◌≡◌, ◌⊎◌, ℕ, ◌+◌, ◌≤◌, List, [], ◌∷◌, Bool, true, false, cond, Some, Ok, refl, sym, ◌∙◌, subst, arith, inl, inr}
+use Rattle.sized_meaning.proofs.Reading.{fits_same, each_hole_as}
+use Rattle.std.proofs.Common.{◌≡◌, ◌⊎◌, ℕ, ◌+◌, ◌≤◌, List, [], ◌∷◌, Bool, true, false, cond, Some, Ok, refl, sym, ap, ◌∙◌, subst, arith, inl, inr, eq-eqb}
 use Rattle.fut_scalar.specs.declared.place.BindId.{BindId}
 use Rattle.fut_scalar.specs.declared.place.Place.{Place}
 use Rattle.fut_flat.specs.declared.prim.Ref.{Ref}
@@ -25,19 +25,19 @@ use Rattle.fut_meaning.specs.Meaning.{placed, plain, row_told, fits_type, Of_lit
 use Rattle.fut_meaning.specs.Operations.{report, operated}
 use Rattle.fut_meaning.specs.Outcomes.{Val, Rel, and_then, the, Then, choose, each_of, turns, while_turns}
 use Rattle.fut_meaning.specs.Values.{Scalar_value, Closure, bind, entered, Evaluate, values}
-use Rattle.sized_types.specs.Sizes.{Free, Const, Name, Own, Unknown, Slot, Dim, Size, Level, Sizes, no_size, size_and, renamed, At, Bound, Variable, Hole}
+use Rattle.sized_types.specs.Sizes.{Free, Const, Name, Own, Unknown, Slot, Dim, Size, Level, Sizes, no_size, size_and, renamed, Variable, Hole}
 use Rattle.fut_sizes.specs.Agreeing.{is_among}
 use Rattle.fut_sizes.specs.Operations.{operation}
 use Rattle.fut_sizes.specs.Scopes.{i64_size, names}
 use Rattle.fut_sizes.specs.Scoping.{Context, with_name, with_size_names, with_pattern}
 use Rattle.fut_sizes.specs.Sizing.{all_part_names, bind_ids, row_of}
-use Rattle.fut_sizes.specs.Suiting.{Each, Scoped, Data, Suits, Free_of}
-use Rattle.fut_sizes.specs.Rules.{taken_by, Away, Pattern_takes, Filled_use, part_sizes, Let_sized, Loops, Branches, General_form, Generalised, with_general, counter, Sized, All_sized, Turns_sized, For_each_choice}
+use Rattle.fut_sizes.specs.Suiting.{Each, Scoped, Data, Suits, Free_of, Never_at}
+use Rattle.fut_sizes.specs.Rules.{taken_by, Away, Pattern_takes, Filled_use, part_sizes, Let_sized, Loops, Branches, General_form, Generalised, Compared_found, with_general, counter, Sized, All_sized, Turns_sized, For_each_choice}
 use Rattle.sized_meaning.specs.Worth.{Worth, no_frames}
 use Rattle.sized_meaning.specs.Shapes.{Meant, exactly, Has_datum}
 use Rattle.sized_meaning.specs.Finding.{One_kind_each}
 use Rattle.sized_meaning.specs.Fits.{Out_fits, Gives, Fits, All_fit}
-use Rattle.sized_meaning.specs.Law.{Sound, Name_home, Simple, Nodes_away, Sizes_apart, No_lambda, Plain_operation, Plain_term, Plain_terms, Plain_turns, World, told, means, calls, Beyond as Out_beyond, Env_fits, Result as Res, ValuesHaveTheirSizes, Named_size, One_type, Single}
+use Rattle.sized_meaning.specs.Law.{Sound, Name_home, Simple, Nodes_away, Sizes_apart, No_lambda, Plain_operation, Plain_term, Plain_terms, Plain_turns, World, told, means, calls, Beyond as Out_beyond, Env_fits, Result as Res, ValuesHaveTheirSizes, One_type, Single}
 use Rattle.sized_meaning.proofs.Ways.{gives_as}
 use Rattle.sized_meaning.proofs.Words.{nothing_filled, Part_values, part_value, part_words}
 use Rattle.sized_meaning.proofs.Outcomes.{gives_exact, gives_then, gives_all, gives_more, out_of}
@@ -116,17 +116,17 @@ module _ (N : Names) (types : Sub) (τ : Meant) (W : World) (S : Sound N types W
 
   -- an operation behind its parts
   strict_gives : (o : Operation Ref BindId) (mark : Place) (ts : Terms Ref BindId) (lo : ℕ) (G : Context) (env : FlatEnv) (vs : List FlatValue) → Plain_operation N types W o lo ts
-      → operation N types o lo (lo + own_numbers o) ts (part_sizes N types W.sizing.size_at W.sizing.home ts (lo + own_numbers o)) ≡ Ok (s lo)
+      → operation N types o lo (lo + own_numbers o) ts (part_sizes N types W.sizing.size_at W.sizing.home ts (lo + own_numbers o)) ≡ Ok (s lo) → Compared_found o G
       → All_sized N types W.sizing.size_at W.sizing.home ts (lo + own_numbers o) (lo + own_numbers o + all_numbers ts) G
       → All_parts (lo + own_numbers o) (lo + own_numbers o + all_numbers ts) G env (part_sizes N types W.sizing.size_at W.sizing.home ts (lo + own_numbers o)) vs × Part_values N types τ W S one env ts (lo + own_numbers o) vs
       → Gives (All_results lo (lo + own_numbers o + all_numbers ts) G env (s lo)) (Operated_at o mark lo env vs)
-  strict_gives o mark ts lo G env vs p e sized k = gives_all (λ w v. R_of lo (lo + own_numbers o + all_numbers ts) w.0 (s lo) v) (Operated_at o mark lo env vs) (λ w.
+  strict_gives o mark ts lo G env vs p e compared sized k = gives_all (λ w v. R_of lo (lo + own_numbers o + all_numbers ts) w.0 (s lo) v) (Operated_at o mark lo env vs) (λ w.
       let at : ℕ = lo + own_numbers o in
       let hi : ℕ = lo + own_numbers o + all_numbers ts in
       let some = own_some o in
       let E = env_moves N types τ W lo hi at hi w.0 w.0 G env (omega arith) (omega arith) (λ d o. refl) w.1 in
       let x = k.0 (w.0, E) in
-      gives_as (R_of lo (1 + lo) x.now (s lo)) (R_of lo hi w.0 (s lo)) (Operated_at o mark lo env vs) (operation_fits N types τ W S one o mark ts lo env x.now vs p (part_words N types τ W S one at hi G env w.0 x.now E x.old ts at hi vs sized k.1) x.fits e)
+      gives_as (R_of lo (1 + lo) x.now (s lo)) (R_of lo hi w.0 (s lo)) (Operated_at o mark lo env vs) (operation_fits N types τ W S one o mark ts lo env x.now vs p (part_words N types τ W S one at hi G env w.0 x.now E x.old ts at hi vs sized k.1) (G, compared, (λ b f. let r = E.finds (Name b) f in let q = E.sizes_right (Name b) r.0 r.1 in (r.0, r.1, q.0 ∙ sym (x.old (Name b) q.1)))) x.fits e)
       (λ v r. record { now = r.now; old = λ d q. r.old d (outside_narrower N types τ W lo hi lo (1 + lo) (omega arith) (omega (arith, some)) d q) ∙ x.old d (outside_narrower N types τ W lo hi at hi (omega arith) (omega arith) d q); fits = r.fits }))
 
   -- ---- branches
@@ -249,7 +249,7 @@ module _ (N : Names) (types : Sub) (τ : Meant) (W : World) (S : Sound N types W
   not_general p v n g = absurd g
 
   -- a let of a function's name
-  general_gives : (p : FlatPattern) (v e : FlatTerm) (lo mid at hi : ℕ) (G : Context) (env : FlatEnv) → mid ≡ 1 + lo + pattern_numbers p → mid + numbers v ≡ at → at + numbers e ≡ hi → Single N types W p lo at → Plain_term N types W v mid → Plain_term N types W e at → Law v → Law e → Sized N types W.sizing.size_at W.sizing.home v mid G
+  general_gives : (p : FlatPattern) (v e : FlatTerm) (lo mid at hi : ℕ) (G : Context) (env : FlatEnv) → mid ≡ 1 + lo + pattern_numbers p → mid + numbers v ≡ at → at + numbers e ≡ hi → Single N types W p lo → Plain_term N types W v mid → Plain_term N types W e at → Law v → Law e → Sized N types W.sizing.size_at W.sizing.home v mid G
       → (A : Generalised N types W.sizing.size_at W.sizing.home p v lo mid at hi G) → Sized N types W.sizing.size_at W.sizing.home e at (with_general N types W.sizing.size_at W.sizing.home p (1 + lo) A.new G)
       → Gives (All_results lo hi G env (s lo)) (Then (means W (Evaluate env mid v)) (λ w. Then (the (bound (1 + lo) p w env)) (λ inner. means W (Evaluate inner at e))))
   unfolding bound
@@ -265,16 +265,16 @@ module _ (N : Names) (types : Sub) (τ : Meant) (W : World) (S : Sound N types W
       let r = hw (X.0, env_moves N types τ W lo hi mid at X.0 X.0 G env (omega (arith, z)) (omega (arith, z'')) (λ d o. refl) X.1) in
       let old : (d : Free) → Beyond lo hi d → r.now d ≡ X.0 d = λ d o. r.old d (outside_narrower N types τ W lo hi mid at (omega (arith, z)) (omega (arith, z'')) d o) in
       let E' = general_env N types τ W S one x lo at hi w A.new G env r.now (env_moves N types τ W lo hi at hi X.0 r.now G env (omega (arith, z, z')) (omega arith) old X.1) (subst (λ y. Of r.now y w) (sym A.type) r.fits)
-      (subst (Away N types W.sizing.size_at W.sizing.home at hi) (sym A.type) A.away) (each_hole_as (λ a. true ≡ false) (λ a. A.new a ≡ false) (λ a i. absurd (let y : true ≡ false = i in cc)) (s (1 + lo)) (single.2).0, (single.2).1) single.1
-      (λ i. let y = single.0 in let f = i.0 in omega (arith, y, f, z, z')) in
-      let y = names_leave N types τ W S one lo at hi (names (Bound_pattern x)) r.now u (omega (arith, z, z')) (omega (arith, z'')) single.3 (k (r.now, E')) in record {
+      (subst (Away N types W.sizing.size_at W.sizing.home at hi) (sym A.type) A.away) (each_hole_as (λ a. true ≡ false) (λ a. A.new a ≡ false) (λ a i. absurd (let y : true ≡ false = i in cc)) (s (1 + lo)) single.1) single.0
+      (λ i. let y = (A.bound x.0 (ap (λ b. cond b true false) (eq-eqb x.0 x.0 refl))).1 in let f = i.0 in omega (arith, y, f, z, z')) in
+      let y = names_leave N types τ W S one lo at hi (names (Bound_pattern x)) r.now u (omega (arith, z, z')) (omega (arith, z'')) A.own_away (k (r.now, E')) in record {
         now = y.0;
         old = λ d o. y.1 d (outside_narrower N types τ W lo hi lo (1 + lo) (omega arith) (omega (arith, z, z', z'')) d o) (outside_narrower N types τ W lo hi at hi (omega (arith, z, z')) (omega arith) d o) ∙ old d o;
         fits = subst (λ t. Of y.0 t u) (sym A.result) y.2;
       }))))
   general_gives p v e lo mid at hi G env z z' z'' single plain_v plain_e law_v law_e sized_v A sized_e = absurd single
 
-  let_by : (b : Binding Ref BindId) (v e : FlatTerm) (lo mid at hi : ℕ) (G : Context) (env : FlatEnv) → mid ≡ 1 + lo + pattern_numbers b.pattern → mid + numbers v ≡ at → at + numbers e ≡ hi → Simple W.sizing b.pattern (1 + lo) → Sizes_apart N types W at hi b.sizes b.pattern (1 + lo) → No_lambda v ⊎ Single N types W b.pattern lo at
+  let_by : (b : Binding Ref BindId) (v e : FlatTerm) (lo mid at hi : ℕ) (G : Context) (env : FlatEnv) → mid ≡ 1 + lo + pattern_numbers b.pattern → mid + numbers v ≡ at → at + numbers e ≡ hi → Simple W.sizing b.pattern (1 + lo) → Sizes_apart N types W at hi b.sizes b.pattern (1 + lo) → No_lambda v ⊎ Single N types W b.pattern lo
       → Plain_term N types W v mid → Plain_term N types W e at → Law v → Law e → Sized N types W.sizing.size_at W.sizing.home v mid G
       → (Let_sized N types W.sizing.size_at W.sizing.home b lo mid at hi × Sized N types W.sizing.size_at W.sizing.home e at (with_pattern W.sizing.size_at b.pattern (1 + lo) (with_size_names (bind_ids b.sizes) G)))
       ⊎ ((A : Generalised N types W.sizing.size_at W.sizing.home b.pattern v lo mid at hi G) × Sized N types W.sizing.size_at W.sizing.home e at (with_general N types W.sizing.size_at W.sizing.home b.pattern (1 + lo) A.new G))
@@ -380,23 +380,15 @@ module _ (N : Names) (types : Sub) (τ : Meant) (W : World) (S : Sound N types W
 
   -- a use of a general name of one type
   general_fits : (m : Worth) (is_general : Variable → Bool) (t u : Size) (v : FlatValue) → One_type is_general t → Filled_use is_general t u → Of m t v → Of m u v
-  general_fits m is_general t u v one_type U h = by_use (subst (λ x. Suits x u ⊎ For_each_choice x u) (nothing_filled U.types t (each_hole_as (λ a. is_general a ≡ false) (λ a. U.types a ≡ Hole a) (λ a e. U.others a e) t one_type.0)) U.used)
+  general_fits m is_general t u v one_type U h = by_use (subst (λ x. Suits x u ⊎ ((C : For_each_choice x u) × Never_at C.n t)) (nothing_filled U.types t (each_hole_as (λ a. is_general a ≡ false) (λ a. U.types a ≡ Hole a) (λ a e. U.others a e) t one_type)) U.used)
     where
-      never_at : (n j : ℕ) (d : Dim) → Scoped Named_size j d → Scoped (Free_of n) j d
-      never_at n j (At (Const c)) k = tt
-      never_at n j (At (Name b)) k = tt
-      never_at n j (At (Own i l)) k = absurd k
-      never_at n j (At (Unknown i l)) k = absurd k
-      never_at n j (At (Slot i)) k = absurd k
-      never_at n j (Bound i l) k = k
-
-      by_use : Suits t u ⊎ For_each_choice t u → Of m u v
+      by_use : Suits t u ⊎ ((C : For_each_choice t u) × Never_at C.n t) → Of m u v
       by_use (inl q) = suits_fits N τ W.sizing (calls W) q m v h
-      by_use (inr C) = subst (λ x. Of m x v) (sym C.wanted)
+      by_use (inr (C, away)) = subst (λ x. Of m x v) (sym C.wanted)
           (instance_fits N τ W.sizing (calls W) C.chosen C.from C.to C.wanted_chosen C.wanted_from C.wanted_to C.n C.m C.δ C.ρ C.at_choice C.parameter C.result
           (λ m v x. suits_fits N τ W.sizing (calls W) C.parameter m v x) (λ m v x. suits_fits N τ W.sizing (calls W) C.result m v x) m v
           (λ F. subst (λ x. Of (at_node C.n F m) x v) C.is_function
-          (fits_same (Free_of C.n) m (at_node C.n F m) N τ W.sizing (calls W) (λ d o. sym (node_else C.n F m d o)) t 0 no_frames no_frames (each_as (Scoped Named_size) (Scoped (Free_of C.n)) (never_at C.n) t 0 one_type.1) (λ j i l. refl) v h)))
+          (fits_same (Free_of C.n) m (at_node C.n F m) N τ W.sizing (calls W) (λ d o. sym (node_else C.n F m d o)) t 0 no_frames no_frames away (λ j i l. refl) v h)))
 
   use_fits : (b : BindId) (lo hi : ℕ) (G : Context) (env : FlatEnv) → ((t : Size) × (G.sizes b.0 ≡ Some t) × Suits t (s lo)) ⊎ ((t : Size) × (G.schemes b.0 ≡ Some t) × Filled_use (G.general b.0) t (s lo)) → (v : FlatValue) → flat_look W.tops env b.0 ≡ Val v → All_results lo hi G env (s lo) v
   use_fits b lo hi G env (inl q) v l = λ w. record { now = w.0; old = λ d o. refl; fits = suits_fits N τ W.sizing (calls W) q.2 w.0 v ((w.1).values b.0 q.0 q.1 v l).0 }
@@ -430,7 +422,7 @@ module _ (N : Names) (types : Sub) (τ : Meant) (W : World) (S : Sound N types W
         (gives_then (λ vs. All_parts at (at + all_numbers ts) G env (part_sizes N types W.sizing.size_at W.sizing.home ts at) vs × Part_values N types τ W S one env ts at vs) (All_results lo (lo + (own_numbers o + all_numbers ts)) G env (s lo)) _ _
         (all_law ts at (at + all_numbers ts) G env refl p.1 h.0)
         (λ vs k. subst (λ hi. Gives (All_results lo hi G env (s lo)) (Operated_at o mark lo env vs)) (let z : lo + own_numbers o + all_numbers ts ≡ lo + (own_numbers o + all_numbers ts) = omega arith in z)
-        (strict_gives o mark ts lo G env vs p.0 h.1 h.0 k)))
+        (strict_gives o mark ts lo G env vs p.0 h.1 h.2 h.0 k)))
     law (Lambda (pattern_and p ps) e) = λ lo G env plain h.
         let at : ℕ = 1 + lo + (pattern_numbers p + all_pattern_numbers ps) in
         evaluates N types τ W S one (All_results lo (lo + numbers (Lambda (pattern_and p ps) e)) G env (s lo)) (Evaluate env lo (Lambda (pattern_and p ps) e))

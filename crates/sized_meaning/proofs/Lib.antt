@@ -1,10 +1,12 @@
 pub mod Ways
 pub mod Outcomes
 pub mod Reading
+pub mod Known
 pub mod Suiting
 pub mod Scalars
 pub mod Environments
 pub mod Finding
+pub mod Flats
 pub mod Datas
 pub mod Entered
 pub mod Alike
@@ -14,6 +16,8 @@ pub mod Words
 pub mod Patterns
 pub mod Mapping
 pub mod Reducing
+pub mod Mapping_several
+pub mod Maps
 pub mod Elements
 pub mod Indexing
 pub mod Declared
@@ -22,6 +26,7 @@ pub mod Row_primitives
 pub mod Zipping
 pub mod Scalar_primitives
 pub mod Sifting
+pub mod Slice_ends
 pub mod Slicing
 pub mod Updating
 pub mod Operations
@@ -30,7 +35,11 @@ pub mod Functions
 pub mod Lets
 pub mod Loops
 pub mod Law
+pub mod More_tops
+pub mod Programs
+pub mod Given
 mod Examples
+mod Program_example
 mod Recording
 mod Triples
 mod Scattering

@@ -26,12 +26,13 @@ use Rattle.fut_sizes.specs.Rules.{Any_free}
 use Rattle.sized_meaning.specs.Worth.{Worth, Frames, no_frames, push, number}
 use Rattle.sized_meaning.specs.Shapes.{Meant, Every_datum, Has_shape, Has_datum}
 use Rattle.sized_meaning.specs.Finding.{One_kind_each}
-use Rattle.sized_meaning.specs.Fits.{Out_fits, Gives, word, Tells_right, Fits}
+use Rattle.sized_meaning.specs.Fits.{Out_fits, Gives, word, Fits}
 use Rattle.sized_meaning.specs.Law.{Sound, World, told, means, calls}
 use Rattle.sized_meaning.proofs.Ways.{gives_as}
 use Rattle.sized_meaning.proofs.Outcomes.{gives_exact, gives_then, out_of}
 use Rattle.sized_meaning.proofs.Scalars.{out_then}
 use Rattle.sized_meaning.proofs.Reading.{shape_same, datum_same}
+use Rattle.sized_meaning.proofs.Known.{Tells_one, one_tells, tells_one}
 use Rattle.sized_meaning.proofs.Datas.{datum_shaped, datum_fits, fits_datum}
 use Rattle.sized_meaning.proofs.Applications.{evaluates}
 
@@ -90,6 +91,10 @@ module _ (Q : ℕ → Type 0) (j : ℕ) where
     all_closed_positions no_size d e = tt
     all_closed_positions (size_and t ts) d e = (closed_positions t d.0 e.0, all_closed_positions ts d.1 e.1)
 
+pub level_data : (d : Dim) (t : Size) → Data t → Data (Level d t)
+unfolding Data
+level_data d t h = h
+
 module _ (N : Names) (types : Sub) (τ : Meant) (W : World) (S : Sound N types W.sizing) (one : One_kind_each τ) (m : Worth) where
   -- ---- data without frames is the same under any
 
@@ -135,7 +140,7 @@ module _ (N : Names) (types : Sub) (τ : Meant) (W : World) (S : Sound N types W
     module _ (φ : Frames) (f : FlatValue) (hf : Fits N τ W.sizing (calls W) m φ (Fun 0 a b) f) where
       pub row_is_told : (φ1 φ2 : Frames) (row : Shape) → Has_shape N τ m φ1 a row → Has_shape N τ m φ2 b (tells W.sizing f (row ∷ []))
       unfolding Fits
-      row_is_told φ1 φ2 row h = shape_anywhere b closed_b (push (λ i. 0) φ) φ2 _ (hf.0.1 data_b (closed_positions (λ i. i < 0) 1 b data_b closed_b) (λ i. 0) row (shape_anywhere a closed_a φ1 (push (λ i. 0) φ) row h))
+      row_is_told φ1 φ2 row h = shape_anywhere b closed_b (push (λ i. 0) φ) φ2 _ (tells_one N τ W.sizing m φ 0 a b f data_b (closed_positions (λ i. i < 0) 1 b data_b closed_b) hf.0 (λ i. 0) row (shape_anywhere a closed_a φ1 (push (λ i. 0) φ) row h))
 
       pub applied_to : (φ1 φ2 : Frames) (d : Datum) → Has_datum N τ m φ1 a d → Gives (Has_datum N τ m φ2 b) (called (means W) f (d ∷ []))
       unfolding Fits
@@ -182,7 +187,7 @@ module _ (N : Names) (types : Sub) (τ : Meant) (W : World) (S : Sound N types W
           (λ ds q. subst (λ z. Gives (Mapped ψ) (Then (the (job false (row_told ((flat_names (told W)).lang W.tops) (Of_function prim.Map f z)) prim.Map at z)) (job_of ((flat_names (told W)).lang W.tops) (plain W.tight) W.budget (means W) 1 f))) (sym q) (map_job ψ hx.datum hx.fits)))
 
       -- what it tells, and it waits for its array
-      map_tells : (ψ : Frames) → Tells_right N τ W.sizing m ψ 1 (Level (Bound 0 0) a) (Level (Bound 0 0) b) (Primitive_value prim.Map at (value_and f no_value))
+      map_tells : (ψ : Frames) → Tells_one N τ W.sizing m ψ 1 (Level (Bound 0 0) a) (Level (Bound 0 0) b) (Primitive_value prim.Map at (value_and f no_value)) (level_data (Bound 0 0) b data_b)
       unfolding Fits Has_shape tells data_told primitive_tells
       map_tells ψ = (refl, λ dr low G h hx. told_rows G h hx)
         where
@@ -192,12 +197,12 @@ module _ (N : Names) (types : Sub) (τ : Meant) (W : World) (S : Sound N types W
 
       map_waits : (ψ : Frames) → Fits N τ W.sizing (calls W) m ψ (Fun 1 (Level (Bound 0 0) a) (Level (Bound 0 0) b)) (Primitive_value prim.Map at (value_and f no_value))
       unfolding Fits
-      map_waits ψ = (map_tells ψ, λ G xs eG hx. gives_as (Mapped (push G ψ)) (λ w. (G' : ℕ → ℕ) × ((i : ℕ) → i ≤ 1 → G' i ≡ G i) × Fits N τ W.sizing (calls W) m (push G' ψ) (Level (Bound 0 0) b) w) _ (map_gives (push G ψ) xs hx) (λ w x. (G, (λ i l. refl), x)))
+      map_waits ψ = (one_tells N τ W.sizing m ψ 1 (Level (Bound 0 0) a) (Level (Bound 0 0) b) (Primitive_value prim.Map at (value_and f no_value)) (level_data (Bound 0 0) b data_b) (map_tells ψ), λ G xs eG hx. gives_as (Mapped (push G ψ)) (λ w. (G' : ℕ → ℕ) × ((i : ℕ) → i ≤ 1 → G' i ≡ G i) × Fits N τ W.sizing (calls W) m (push G' ψ) (Level (Bound 0 0) b) w) _ (map_gives (push G ψ) xs hx) (λ w x. (G, (λ i l. refl), x)))
 
     pub map_fits : Fits N τ W.sizing (calls W) m no_frames (Fun 0 (Fun 0 a b) (Fun 1 (Level (Bound 0 0) a) (Level (Bound 0 0) b))) (Primitive_value prim.Map at no_value)
-    unfolding Fits Data
+    unfolding Fits Has_shape
     map_fits = (
-      (refl, λ dr. absurd dr),
+      (refl, λ known F h hx. absurd hx),
       λ F f eF hf. evaluates N types τ W S one _ (Call (Primitive_value prim.Map at no_value) f)
           (gives_exact (λ w. (F' : ℕ → ℕ) × ((i : ℕ) → i ≤ 0 → F' i ≡ F i) × Fits N τ W.sizing (calls W) m (push F' no_frames) (Fun 1 (Level (Bound 0 0) a) (Level (Bound 0 0) b)) w) 0 (Val (Primitive_value prim.Map at (value_and f no_value))) (F, (λ i l. refl), map_waits (push F no_frames) f hf (push F no_frames))),
     )

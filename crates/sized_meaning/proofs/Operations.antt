@@ -24,7 +24,9 @@ use Rattle.fut_flat.specs.Erased.{FlatType}
 use Rattle.sized_meaning.proofs.Entered.{value_shaped}
 use Rattle.sized_meaning.proofs.Ranging.{range_fits}
 use Rattle.sized_meaning.proofs.Words.{Part_words}
-use Rattle.sized_meaning.proofs.Coercing.{coerced_alike}
+use Rattle.sized_meaning.proofs.Coercing.{Names_right, coerced_alike}
+use Rattle.fut_sizes.specs.Scoping.{Context}
+use Rattle.fut_sizes.specs.Rules.{Sizes_found, Compared_found}
 use Rattle.fut_sizes.specs.Suiting.{Data}
 use Rattle.fut_meaning.specs.Values.{Scalar_value, Tuple_value, Record_value, values, fields, replaced}
 use Rattle.sized_meaning.proofs.Recording.{record_made, record_changed, tuple_part}
@@ -168,44 +170,44 @@ module _ (N : Names) (types : Sub) (τ : Meant) (W : World) (S : Sound N types W
       of_record (Record_value gs) k e = subst (λ x. Of m x (Record_value (replaced f w gs))) e (record_changed N types τ W S one m p.0 f u w p.1 gs hw k)
       of_record v k e = absurd k
 
-  indexed_fits : (ps : List Part) (mark : Place) (x : FlatTerm) (es : Terms Ref BindId) (lo : ℕ) (env : FlatEnv) (m : Worth) (vs : List FlatValue) → Indexed_parts N types W lo ps (term_and x es) (lo + 1) → All_fit N τ W.sizing (calls W) m no_frames (parts (term_and x es) (lo + 1)) (values vs)
+  indexed_fits : (ps : List Part) (mark : Place) (x : FlatTerm) (es : Terms Ref BindId) (lo : ℕ) (env : FlatEnv) (m : Worth) (vs : List FlatValue) → Indexed_parts N types W lo ps (term_and x es) (lo + 1) → Part_words N types τ W S one m (term_and x es) (lo + 1) vs → All_fit N τ W.sizing (calls W) m no_frames (parts (term_and x es) (lo + 1)) (values vs)
       → operation N types (Index ps) lo (lo + 1) (term_and x es) (parts (term_and x es) (lo + 1)) ≡ Ok (s lo) → Gives_node (Index ps) mark lo env m vs
-  indexed_fits ps mark x es lo env m vs (d, inl p) h e = index_fits N types τ W S one m ps mark x es lo env vs (d, p) h e
-  indexed_fits ps mark x es lo env m vs (d, inr p) h e = slices_fit N types τ W S one m ps mark x es lo env vs d p.0 p.1 h e
+  indexed_fits ps mark x es lo env m vs (d, inl p) w h e = index_fits N types τ W S one m ps mark x es lo env vs (d, p) h e
+  indexed_fits ps mark x es lo env m vs (d, inr p) w h e = slices_fit N types τ W S one m ps mark x es lo env vs d p.0 p.1 p.2 w h e
 
   -- what `:>` lets pass
-  coerced_out : (m : Worth) (e : FlatType) (mark : Place) (lo : ℕ) (env : FlatEnv) (v : FlatValue) → Data (s (lo + 1)) × Coerces e (s (lo + 1)) → coerced_size N e (s (lo + 1)) ≡ s lo → Of m (s (lo + 1)) v
+  coerced_out : (m : Worth) (e : FlatType) (mark : Place) (lo : ℕ) (env : FlatEnv) (v : FlatValue) (g : (G : Context) × Sizes_found e G × Names_right G (found W.sizing env) m) → Data (s (lo + 1)) × Coerces e (s (lo + 1)) → coerced_size N e (s (lo + 1)) ≡ s lo → Of m (s (lo + 1)) v
       → Out_fits (Res N types τ W lo (1 + lo) m (s lo)) (cond (fits_type ((flat_names (told W)).lang W.tops) env lo v) (Val v) (Fail (report kind.Size mark)))
   unfolding fits_type flat_names coerced_size
-  coerced_out m e mark lo env v p same h = by_test (has_all W.sizing.fields (found W.sizing env) (s lo) (value_shape v)) refl
+  coerced_out m e mark lo env v g p same h = by_test (has_all W.sizing.fields (found W.sizing env) (s lo) (value_shape v)) refl
     where
       by_test : (b : Bool) → has_all W.sizing.fields (found W.sizing env) (s lo) (value_shape v) ≡ b → Out_fits (Res N types τ W lo (1 + lo) m (s lo)) (cond b (Val v) (Fail (report kind.Size mark)))
       by_test true q = record {
         now = m;
         old = λ d o. refl;
-        fits = subst (λ u. Of m u v) same ((alike_fits N τ m m W.sizing (calls W) (coerced_alike N τ W.sizing.fields (found W.sizing env) m 0 e (s (lo + 1)) (value_shape v) p.1 p.0 (value_shaped N τ W.sizing (calls W) m no_frames (s (lo + 1)) p.0 v h)
+        fits = subst (λ u. Of m u v) same ((alike_fits N τ m m W.sizing (calls W) (coerced_alike N τ W.sizing.fields (found W.sizing env) m g.0 g.2 0 e (s (lo + 1)) (value_shape v) p.1 g.1 p.0 (value_shaped N τ W.sizing (calls W) m no_frames (s (lo + 1)) p.0 v h)
             (subst (λ u. has_all W.sizing.fields (found W.sizing env) u (value_shape v) ≡ true) (sym same) q)) v).0 h);
       }
       by_test false q = tt
 
-  pub operation_fits : (o : Operation Ref BindId) (mark : Place) (ts : Terms Ref BindId) (lo : ℕ) (env : FlatEnv) (m : Worth) (vs : List FlatValue) → Plain_operation N types W o lo ts → Part_words N types τ W S one m ts (lo + own_numbers o) vs → All_fit N τ W.sizing (calls W) m no_frames (parts ts (lo + own_numbers o)) (values vs)
+  pub operation_fits : (o : Operation Ref BindId) (mark : Place) (ts : Terms Ref BindId) (lo : ℕ) (env : FlatEnv) (m : Worth) (vs : List FlatValue) → Plain_operation N types W o lo ts → Part_words N types τ W S one m ts (lo + own_numbers o) vs → (G : Context) × Compared_found o G × Names_right G (found W.sizing env) m → All_fit N τ W.sizing (calls W) m no_frames (parts ts (lo + own_numbers o)) (values vs)
       → operation N types o lo (lo + own_numbers o) ts (parts ts (lo + own_numbers o)) ≡ Ok (s lo) → Gives_node o mark lo env m vs
   unfolding Fits All_fit operate coerced operation declared ascribed coercion
-  operation_fits Tuple_of mark ts lo env m vs p w h e = gives_exact _ 0 (Val (Tuple_value (values vs))) (record { now = m; old = λ d o. refl; fits = subst (λ u. Of m u (Tuple_value (values vs))) (same_ok (Built head.Tuple (parts ts (lo + 1))) (s lo) e) h })
-  operation_fits Array_of mark ts lo env m vs p w h e = array_fits N types τ W S one m mark ts lo env vs p h e
-  operation_fits (Index ps) mark (term_and x es) lo env m vs p w h e = indexed_fits ps mark x es lo env m vs p h e
-  operation_fits Update mark (term_and x es) lo env m vs p w h e = update_fits N types τ W S one m mark x es lo env vs p.0 p.1 h e
-  operation_fits (Project f) mark (term_and x no_term) lo env m vs p w h e =
+  operation_fits Tuple_of mark ts lo env m vs p w g h e = gives_exact _ 0 (Val (Tuple_value (values vs))) (record { now = m; old = λ d o. refl; fits = subst (λ u. Of m u (Tuple_value (values vs))) (same_ok (Built head.Tuple (parts ts (lo + 1))) (s lo) e) h })
+  operation_fits Array_of mark ts lo env m vs p w g h e = array_fits N types τ W S one m mark ts lo env vs p h e
+  operation_fits (Index ps) mark (term_and x es) lo env m vs p w g h e = indexed_fits ps mark x es lo env m vs p w h e
+  operation_fits Update mark (term_and x es) lo env m vs p w g h e = update_fits N types τ W S one m mark x es lo env vs p.0 p.1 h e
+  operation_fits (Project f) mark (term_and x no_term) lo env m vs p w g h e =
       let v = one_part m (s (lo + 2)) vs h in
       let same : p.4 ≡ s lo = sym (ap (λ o. part_or o (of_type (no_size_of lo) 0 (types lo))) p.5) ∙ same_ok (part_or (part_of N f (s (lo + 2))) (of_type (no_size_of lo) 0 (types lo))) (s lo) e in
       subst (Gives_node (Project f) mark lo env m) (sym v.all) (gives_exact _ 0 _ (out_as (Of m p.4) (Res N types τ W lo (1 + lo) m (s lo)) (part f v.first) (λ w k. record { now = m; old = λ d o. refl; fits = subst (λ u. Of m u w) same k })
       (part_out m f (s (lo + 2)) p.4 p.0 p.1 p.2 p.3 p.5 v.first v.first_fits)))
-  operation_fits (Record_of fs) mark ts lo env m vs p w h e = gives_exact _ 0 _ (out_as (Of m (s lo)) (Res N types τ W lo (1 + lo) m (s lo)) _ (λ w k. record { now = m; old = λ d o. refl; fits = k }) (record_out m fs lo ts vs p h (same_ok _ (s lo) e)))
-  operation_fits (Replace f) mark (term_and x (term_and y no_term)) lo env m vs p w h e =
+  operation_fits (Record_of fs) mark ts lo env m vs p w g h e = gives_exact _ 0 _ (out_as (Of m (s lo)) (Res N types τ W lo (1 + lo) m (s lo)) _ (λ w k. record { now = m; old = λ d o. refl; fits = k }) (record_out m fs lo ts vs p h (same_ok _ (s lo) e)))
+  operation_fits (Replace f) mark (term_and x (term_and y no_term)) lo env m vs p w g h e =
       let q = two_parts m (s (lo + 1)) (s (lo + 1 + numbers x)) vs h in
       subst (Gives_node (Replace f) mark lo env m) (sym q.all) (gives_exact _ 0 _ (out_as (Of m (s lo)) (Res N types τ W lo (1 + lo) m (s lo)) _ (λ w k. record { now = m; old = λ d o. refl; fits = k })
       (replaced_out m f (lo + 1) (s (lo + 1 + numbers x)) (s lo) p q.first q.second (same_ok _ (s lo) e) q.first_fits q.second_fits)))
-  operation_fits (Declared e) mark (term_and x no_term) lo env m vs p w h q =
+  operation_fits (Declared e) mark (term_and x no_term) lo env m vs p w g h q =
       let v = one_part m (s (lo + 1)) vs h in
       let r = then_ok (has_sizes N true (lo + 1) e (s (lo + 1))) (λ z. Ok (with_sizes N (Some (λ k i d. Bound 0 (suc k + i))) (λ i d. At (Unknown lo i)) 0 e (s (lo + 1)))) (s lo) q in
       subst (Gives_node (Declared e) mark lo env m) (sym v.all) (gives_exact _ 0 (Val v.first) (record {
@@ -215,30 +217,30 @@ module _ (N : Names) (types : Sub) (τ : Meant) (W : World) (S : Sound N types W
             ((alike_fits N τ m (at_node lo (all_of m (s (lo + 1))) m) W.sizing (calls W)
             (declared_as N (Some (λ k i d. Bound 0 (suc k + i))) (Beyond N types τ W lo (1 + lo)) lo (lo + 1) m e (s (lo + 1)) r.0 (λ d o. beyond_node N types τ W lo (all_of m (s (lo + 1))) m d o) p.0 p.1 p.2 r.1) v.first).0 v.first_fits);
       }))
-  operation_fits (Ascribe e) mark (term_and x no_term) lo env m vs p w h q =
+  operation_fits (Ascribe e) mark (term_and x no_term) lo env m vs p w g h q =
       let v = one_part m (s (lo + 1)) vs h in
       let r = then_ok (has_sizes N true (lo + 1) e (s (lo + 1))) (λ z. Ok (s (lo + 1))) (s lo) q in
       subst (Gives_node (Ascribe e) mark lo env m) (sym v.all) (gives_exact _ 0 (Val v.first) (record { now = m; old = λ d o. refl; fits = subst (λ u. Of m u v.first) (same_ok (s (lo + 1)) (s lo) r.2) v.first_fits }))
-  operation_fits (Coerce e) mark (term_and x no_term) lo env m vs p w h q =
+  operation_fits (Coerce e) mark (term_and x no_term) lo env m vs p w g h q =
       let v = one_part m (s (lo + 1)) vs h in
       let r = then_ok (has_sizes N false (lo + 1) e (s (lo + 1))) (λ z. Ok (coerced_size N e (s (lo + 1)))) (s lo) q in
-      subst (Gives_node (Coerce e) mark lo env m) (sym v.all) (gives_exact _ 0 _ (coerced_out m e mark lo env v.first p (same_ok _ (s lo) r.2) v.first_fits))
-  operation_fits (Range stepped e) mark (term_and x es) lo env m [] p w h q = absurd h
-  operation_fits (Range stepped e) mark (term_and x es) lo env m (v ∷ ws) p w h q = range_fits N types τ W S one m stepped e mark (term_and x es) lo env v ws p (part_is m (lo + 1) (sort.Int p.0) v p.2 h.0) w h q
-  operation_fits (Integer n None) mark no_term lo env m vs p w h e = subst (Gives_node (Integer n None) mark lo env m) (sym (no_parts m vs h)) (gives_exact _ 0 _ (scalar_fits lo m (sort.Int (W.integer_at lo)) _ p (same_ok _ (s lo) e) refl))
-  operation_fits (Integer n (Some j)) mark no_term lo env m vs p w h e = subst (Gives_node (Integer n (Some j)) mark lo env m) (sym (no_parts m vs h)) (gives_exact _ 0 _ (scalar_fits lo m (sort.Int j) _ p (same_ok _ (s lo) e) refl))
-  operation_fits (Truth b) mark no_term lo env m vs p w h e = subst (Gives_node (Truth b) mark lo env m) (sym (no_parts m vs h)) (gives_exact _ 0 _ (scalar_fits lo m sort.Bool _ p (same_ok _ (s lo) e) refl))
-  operation_fits (Binary o) mark (term_and x (term_and y no_term)) lo env m vs p w h e =
+      subst (Gives_node (Coerce e) mark lo env m) (sym v.all) (gives_exact _ 0 _ (coerced_out m e mark lo env v.first g p (same_ok _ (s lo) r.2) v.first_fits))
+  operation_fits (Range stepped e) mark (term_and x es) lo env m [] p w g h q = absurd h
+  operation_fits (Range stepped e) mark (term_and x es) lo env m (v ∷ ws) p w g h q = range_fits N types τ W S one m stepped e mark (term_and x es) lo env v ws p (part_is m (lo + 1) (sort.Int p.0) v p.2 h.0) w h q
+  operation_fits (Integer n None) mark no_term lo env m vs p w g h e = subst (Gives_node (Integer n None) mark lo env m) (sym (no_parts m vs h)) (gives_exact _ 0 _ (scalar_fits lo m (sort.Int (W.integer_at lo)) _ p (same_ok _ (s lo) e) refl))
+  operation_fits (Integer n (Some j)) mark no_term lo env m vs p w g h e = subst (Gives_node (Integer n (Some j)) mark lo env m) (sym (no_parts m vs h)) (gives_exact _ 0 _ (scalar_fits lo m (sort.Int j) _ p (same_ok _ (s lo) e) refl))
+  operation_fits (Truth b) mark no_term lo env m vs p w g h e = subst (Gives_node (Truth b) mark lo env m) (sym (no_parts m vs h)) (gives_exact _ 0 _ (scalar_fits lo m sort.Bool _ p (same_ok _ (s lo) e) refl))
+  operation_fits (Binary o) mark (term_and x (term_and y no_term)) lo env m vs p w g h e =
       let q = two_parts m (s (lo + 2)) (s (lo + 2 + numbers x)) vs h in
       subst (Gives_node (Binary o) mark lo env m) (sym q.all) (gives_exact _ 0 _ (scalar_out lo m (result_type o p.0) _ p.1 (same_ok _ (s lo) e)
       (binary_gives o mark p.0 q.first q.second (types (lo + 2)) (λ z. part_is m (lo + 2) p.0 q.first z q.first_fits) p.2)))
-  operation_fits Negate mark (term_and x no_term) lo env m vs p w h e =
+  operation_fits Negate mark (term_and x no_term) lo env m vs p w g h e =
       let q = one_part m (s (lo + 1)) vs h in
       subst (Gives_node Negate mark lo env m) (sym q.all) (gives_exact _ 0 _ (scalar_out lo m p.0 _ p.1 (same_ok _ (s lo) e) (negated_gives p.0 q.first (part_is m (lo + 1) p.0 q.first p.2 q.first_fits))))
-  operation_fits Complement mark (term_and x no_term) lo env m vs p w h e =
+  operation_fits Complement mark (term_and x no_term) lo env m vs p w g h e =
       let q = one_part m (s (lo + 1)) vs h in
       subst (Gives_node Complement mark lo env m) (sym q.all) (gives_exact _ 0 _ (scalar_out lo m p.0 _ p.1 (same_ok _ (s lo) e) (turned_gives p.0 q.first (part_is m (lo + 1) p.0 q.first p.2 q.first_fits))))
-  operation_fits Assert mark (term_and x no_term) lo env m vs p w h e =
+  operation_fits Assert mark (term_and x no_term) lo env m vs p w g h e =
       let q = one_part m (s (lo + 1)) vs h in
       subst (Gives_node Assert mark lo env m) (sym q.all) (gives_exact _ 0 _ (scalar_out lo m sort.Bool _ p.0 (same_ok _ (s lo) e) (asserted_gives mark q.first (part_is m (lo + 1) sort.Bool q.first p.1 q.first_fits))))
-  operation_fits o mark ts lo env m vs p w h e = absurd p
+  operation_fits o mark ts lo env m vs p w g h e = absurd p

@@ -24,20 +24,22 @@ use Rattle.fut_meaning.specs.Operations.{primitive_use}
 use Rattle.fut_meaning.specs.Outcomes.{Val, the, Then, and_then}
 use Rattle.fut_meaning.specs.Values.{Scalar_value, Primitive_value, no_value, Call, value_and}
 use Rattle.fut_meaning.proofs.Safe.{Every}
-use Rattle.sized_types.specs.Sizes.{Inferred, Bound, Variable, Size, Level, Fun, levels}
+use Rattle.sized_types.specs.Sizes.{given, Inferred, Bound, Variable, Size, Level, Fun, levels}
 use Rattle.fut_sizes.specs.Scopes.{i64_size}
 use Rattle.fut_sizes.specs.Primitives.{prim_size, sized_type}
-use Rattle.fut_sizes.specs.Suiting.{Each, Scoped, Suits, Data}
+use Rattle.fut_sizes.specs.Suiting.{Never_at, Each, Scoped, Suits, suits_same, suits_parts, suits_function, Data}
 use Rattle.fut_sizes.specs.Rules.{For_each_choice, Filled_use, Any_free, filled, all_filled}
 use Rattle.sized_meaning.specs.Worth.{Worth, Frames, no_frames, push, number}
 use Rattle.sized_meaning.specs.Shapes.{Meant, Has_shape, Has_datum}
 use Rattle.sized_meaning.specs.Finding.{One_kind_each}
-use Rattle.sized_meaning.specs.Fits.{Out_fits, Gives, Is_scalar, word, Fits}
-use Rattle.sized_meaning.specs.Law.{Sound, Plain_primitive, World, told, means, calls}
+use Rattle.sized_meaning.specs.Fits.{Out_fits, Gives, Is_scalar, word, Chosen_in, Flat_result, Known_result, Told_right, Fits}
+use Rattle.sized_meaning.specs.Law.{Sound, Flat_first, Plain_use, World, told, means, calls}
 use Rattle.sized_meaning.proofs.Scalars.{out_then}
 use Rattle.sized_meaning.proofs.Ways.{gives_as}
 use Rattle.sized_meaning.proofs.Outcomes.{gives_exact, gives_then}
-use Rattle.sized_meaning.proofs.Suiting.{at_node, suits_fits, instance_fits}
+use Rattle.sized_meaning.proofs.Reading.{flat_result_replaced}
+use Rattle.sized_meaning.proofs.Maps.{map2_fits, map3_fits, map4_fits, map5_fits}
+use Rattle.sized_meaning.proofs.Suiting.{suits_flat_result, at_node, suits_fits, instance_fits}
 use Rattle.fut_meaning.proofs.Data.{datum_of_as}
 use Rattle.fut_meaning.specs.Telling.{tells, primitive_tells}
 use Rattle.sized_meaning.proofs.Datas.{datum_fits}
@@ -81,8 +83,8 @@ module _ (N : Names) (types : Sub) (τ : Meant) (W : World) (S : Sound N types W
     iota_gives F v e h = absurd h
 
     iota_fits : Fits N τ W.sizing (calls W) m no_frames (Fun 0 i64_size (Level (Bound 0 0) i64_size)) (Primitive_value prim.Iota at no_value)
-    unfolding Fits Each
-    iota_fits = ((refl, λ dr low. absurd (let l = low.0 refl in omega (arith, l))), λ F v eF hv. gives_as _ _ _ (iota_gives F v eF hv) (λ w x. (F, (λ i l. refl), x)))
+    unfolding Fits Each Known_result Chosen_in
+    iota_fits = ((refl, λ known. absurd (let l = known.1.0 in omega (arith, l))), λ F v eF hv. gives_as _ _ _ (iota_gives F v eF hv) (λ w x. (F, (λ i l. refl), x)))
 
   -- ---- tabulate
 
@@ -129,12 +131,12 @@ module _ (N : Names) (types : Sub) (τ : Meant) (W : World) (S : Sound N types W
     tabled_gives v e h = absurd h
 
   tabulate_fits : (a : Size) → Data a → Each (Scoped Any_free) 0 a → (at : Place) → Fits N τ W.sizing (calls W) m no_frames (Fun 0 i64_size (Fun 0 (Fun 0 i64_size a) (Level (Bound 1 0) a))) (Primitive_value prim.Tabulate at no_value)
-  unfolding Fits Data Has_shape push
+  unfolding Fits Told_right Has_shape push
   tabulate_fits a d c at = (
-    (refl, λ dr. absurd dr),
+    (refl, λ known F h hx G g hg. absurd hg),
     λ F v eF hv. evaluates N types τ W S one _ (Call (Primitive_value prim.Tabulate at no_value) v)
         (gives_exact (λ w. (F' : ℕ → ℕ) × ((i : ℕ) → i ≤ 0 → F' i ≡ F i) × Fits N τ W.sizing (calls W) m (push F' no_frames) (Fun 0 (Fun 0 i64_size a) (Level (Bound 1 0) a)) w) 0 (Val (Primitive_value prim.Tabulate at (value_and v no_value)))
-        (F, (λ i l. refl), ((refl, λ dr low G h hx. absurd hx), λ G f eG hf. gives_as (Tabled a d c at (push G (push F no_frames)) f hf) _ _ (tabled_gives a d c at (push G (push F no_frames)) f hf v (sym eF) hv) (λ w x. (G, (λ i l. refl), x))))),
+        (F, (λ i l. refl), ((refl, λ known G h hx. absurd hx), λ G f eG hf. gives_as (Tabled a d c at (push G (push F no_frames)) f hf) _ _ (tabled_gives a d c at (push G (push F no_frames)) f hf v (sym eF) hv) (λ w x. (G, (λ i l. refl), x))))),
   )
 
   -- ---- length
@@ -154,65 +156,85 @@ module _ (N : Names) (types : Sub) (τ : Meant) (W : World) (S : Sound N types W
         (λ ds q. subst (λ z. Gives (Fits N τ W.sizing (calls W) m φ i64_size) (Then (the (job false (row_told ((flat_names (told W)).lang W.tops) (Of_function prim.Length no_function z)) prim.Length at z)) (job_of ((flat_names (told W)).lang W.tops) (plain W.tight) W.budget (means W) 0 no_function))) (sym q) (length_job φ hv.datum hv.fits)))
 
     length_fits : Fits N τ W.sizing (calls W) m no_frames (Fun 1 (Level (Bound 0 0) a) i64_size) (Primitive_value prim.Length at no_value)
-    unfolding Fits Has_shape tells primitive_tells
-    length_fits = ((refl, λ dr low F h hx. refl), λ F v eF hv. gives_as _ _ _ (length_gives (push F no_frames) v hv) (λ w x. (F, (λ i l. refl), x)))
+    unfolding Fits Has_shape Told_right tells primitive_tells
+    length_fits = ((refl, λ known F h hx. refl), λ F v eF hv. gives_as _ _ _ (length_gives (push F no_frames) v hv) (λ w x. (F, (λ i l. refl), x)))
 
   -- ---- a use of a primitive, whose type variables are these types of data
 
-  filled_fits : (p : Primitive) (at : Place) (u : Size) → Plain_primitive p → Filled_use (λ v. true) (prim_size p) u → (q : (v : Variable) → Size) → ((v : Variable) → Data (q v)) → ((v : Variable) → Each (Scoped Any_free) 0 (q v)) → Fits N τ W.sizing (calls W) m no_frames (filled q (prim_size p)) (primitive_use p at)
-  unfolding filled all_filled prim_size sized_type levels Fits
-  filled_fits prim.Map at u pl U q d c = map_fits N types τ W S one m (q (Inferred 0)) (q (Inferred 1)) (d (Inferred 0)) (d (Inferred 1)) (c (Inferred 0)) (c (Inferred 1)) at
-  filled_fits prim.Reduce at u pl U q d c = reduce_fits N types τ W S one m (q (Inferred 0)) (d (Inferred 0)) (c (Inferred 0)) at
-  filled_fits prim.ReduceComm at u pl U q d c = reduce_comm_fits N types τ W S one m (q (Inferred 0)) (d (Inferred 0)) (c (Inferred 0)) at
-  filled_fits prim.Scan at u pl U q d c = scan_fits N types τ W S one m (q (Inferred 0)) (d (Inferred 0)) (c (Inferred 0)) at
-  filled_fits prim.Filter at u pl U q d c = filter_fits N types τ W S one m (q (Inferred 0)) (d (Inferred 0)) (c (Inferred 0)) at no_frames
-  filled_fits prim.Partition at u pl U q d c = partition_fits N types τ W S one m (q (Inferred 0)) (d (Inferred 0)) (c (Inferred 0)) at no_frames
-  filled_fits prim.Transpose at u pl U q d c = transpose_fits N types τ W S one m (q (Inferred 0)) (d (Inferred 0)) (c (Inferred 0)) at no_frames
-  filled_fits prim.Tabulate at u pl U q d c = tabulate_fits (q (Inferred 0)) (d (Inferred 0)) (c (Inferred 0)) at
-  filled_fits prim.Length at u pl U q d c = length_fits (q (Inferred 0)) at
-  filled_fits prim.Iota at u pl U q d c = iota_fits at
-  filled_fits prim.Reverse at u pl U q d c = reverse_fits N types τ W S one m (q (Inferred 0)) (d (Inferred 0)) (c (Inferred 0)) at no_frames
-  filled_fits prim.Indices at u pl U q d c = indices_fits N types τ W S one m (q (Inferred 0)) (d (Inferred 0)) (c (Inferred 0)) at no_frames
-  filled_fits prim.Null at u pl U q d c = null_fits N types τ W S one m (q (Inferred 0)) (d (Inferred 0)) (c (Inferred 0)) at no_frames
-  filled_fits prim.Head at u pl U q d c = head_fits N types τ W S one m (q (Inferred 0)) (d (Inferred 0)) (c (Inferred 0)) at no_frames
-  filled_fits prim.Last at u pl U q d c = last_fits N types τ W S one m (q (Inferred 0)) (d (Inferred 0)) (c (Inferred 0)) at no_frames
-  filled_fits prim.Init at u pl U q d c = init_fits N types τ W S one m (q (Inferred 0)) (d (Inferred 0)) (c (Inferred 0)) at no_frames
-  filled_fits prim.Tail at u pl U q d c = tail_fits N types τ W S one m (q (Inferred 0)) (d (Inferred 0)) (c (Inferred 0)) at no_frames
-  filled_fits prim.Copy at u pl U q d c = copy_fits N types τ W S one m (q (Inferred 0)) (d (Inferred 0)) (c (Inferred 0)) at no_frames
-  filled_fits prim.Take at u pl U q d c = take_fits N types τ W S one m (q (Inferred 0)) (d (Inferred 0)) (c (Inferred 0)) at no_frames
-  filled_fits prim.Drop at u pl U q d c = drop_fits N types τ W S one m (q (Inferred 0)) (d (Inferred 0)) (c (Inferred 0)) at no_frames
-  filled_fits prim.Rotate at u pl U q d c = rotate_fits N types τ W S one m (q (Inferred 0)) (d (Inferred 0)) (c (Inferred 0)) at no_frames
-  filled_fits prim.Replicate at u pl U q d c = replicate_fits N types τ W S one m (q (Inferred 0)) (d (Inferred 0)) (c (Inferred 0)) at no_frames
-  filled_fits prim.Concat at u pl U q d c = concat_fits N types τ W S one m (q (Inferred 0)) (d (Inferred 0)) (c (Inferred 0)) at no_frames
-  filled_fits prim.Flatten at u pl U q d c = flatten_fits N types τ W S one m (q (Inferred 0)) (d (Inferred 0)) (c (Inferred 0)) at no_frames
-  filled_fits prim.Zip at u pl U q d c = zip_fits N types τ W S one m (q (Inferred 0)) (q (Inferred 1)) (d (Inferred 0)) (d (Inferred 1)) (c (Inferred 0)) (c (Inferred 1)) at no_frames
-  filled_fits prim.Unzip at u pl U q d c = unzip_fits N types τ W S one m (q (Inferred 0)) (q (Inferred 1)) (d (Inferred 0)) (d (Inferred 1)) (c (Inferred 0)) (c (Inferred 1)) at no_frames
-  filled_fits prim.Zip3 at u pl U q d c = zip3_fits N types τ W S one m (q (Inferred 0)) (q (Inferred 1)) (q (Inferred 2)) (d (Inferred 0)) (d (Inferred 1)) (d (Inferred 2)) (c (Inferred 0)) (c (Inferred 1)) (c (Inferred 2)) at no_frames
-  filled_fits prim.Unzip3 at u pl U q d c = unzip3_fits N types τ W S one m (q (Inferred 0)) (q (Inferred 1)) (q (Inferred 2)) (d (Inferred 0)) (d (Inferred 1)) (d (Inferred 2)) (c (Inferred 0)) (c (Inferred 1)) (c (Inferred 2)) at no_frames
-  filled_fits prim.Unflatten at u pl U q d c = unflatten_fits N types τ W S one m (q (Inferred 0)) (d (Inferred 0)) (c (Inferred 0)) at no_frames
-  filled_fits prim.Scatter at u pl U q d c = scatter_fits N types τ W S one m (q (Inferred 0)) (d (Inferred 0)) (c (Inferred 0)) at no_frames
-  filled_fits prim.ReduceByIndex at u pl U q d c = reduce_by_index_fits N types τ W S one m (q (Inferred 0)) (d (Inferred 0)) (c (Inferred 0)) at no_frames
-  filled_fits (prim.Convert to from) at u pl U q d c = convert_fits N types τ W S one m at no_frames to from
-  filled_fits (prim.Min t) at u pl U q d c = min_fits N types τ W S one m at no_frames t
-  filled_fits (prim.Max t) at u pl U q d c = max_fits N types τ W S one m at no_frames t
-  filled_fits (prim.Abs t) at u pl U q d c = abs_fits N types τ W S one m at no_frames t
-  filled_fits (prim.Popc t) at u pl U q d c = popc_fits N types τ W S one m at no_frames t
-  filled_fits (prim.Lowest t) at u pl U q d c = refl
-  filled_fits (prim.Highest t) at u pl U q d c = refl
-  filled_fits (prim.NumBits t) at u pl U q d c = refl
-  filled_fits (prim.Fold folding.Sum t) at u pl U q d c = fold_fits N types τ W S one m at no_frames folding.Sum t
-  filled_fits (prim.Fold folding.Product t) at u pl U q d c = fold_fits N types τ W S one m at no_frames folding.Product t
-  filled_fits (prim.Fold folding.Minimum t) at u pl U q d c = fold_fits N types τ W S one m at no_frames folding.Minimum t
-  filled_fits (prim.Fold folding.Maximum t) at u pl U q d c = fold_fits N types τ W S one m at no_frames folding.Maximum t
-  filled_fits p at u pl U q d c = absurd pl
+  filled_fits : (p : Primitive) (at : Place) (u : Size) → Filled_use (λ v. true) (prim_size p) u → (q : (v : Variable) → Size) → Plain_use p (filled q (prim_size p)) → ((v : Variable) → Data (q v)) → ((v : Variable) → Each (Scoped Any_free) 0 (q v)) → Fits N τ W.sizing (calls W) m no_frames (filled q (prim_size p)) (primitive_use p at)
+  unfolding filled all_filled prim_size sized_type levels Fits Flat_result
+  filled_fits prim.Map at u U q fl d c = map_fits N types τ W S one m (q (Inferred 0)) (q (Inferred 1)) (d (Inferred 0)) (d (Inferred 1)) (c (Inferred 0)) (c (Inferred 1)) at
+  filled_fits prim.Map2 at u U q fl d c = map2_fits N types τ W S one m at (q (Inferred 0)) (q (Inferred 1)) (q (Inferred 2)) (d (Inferred 0), c (Inferred 0)) (d (Inferred 1), c (Inferred 1)) (d (Inferred 2), c (Inferred 2)) fl no_frames
+  filled_fits prim.Map3 at u U q fl d c = map3_fits N types τ W S one m at (q (Inferred 0)) (q (Inferred 1)) (q (Inferred 2)) (q (Inferred 3)) (d (Inferred 0), c (Inferred 0)) (d (Inferred 1), c (Inferred 1)) (d (Inferred 2), c (Inferred 2)) (d (Inferred 3), c (Inferred 3)) fl no_frames
+  filled_fits prim.Map4 at u U q fl d c = map4_fits N types τ W S one m at (q (Inferred 0)) (q (Inferred 1)) (q (Inferred 2)) (q (Inferred 3)) (q (Inferred 4)) (d (Inferred 0), c (Inferred 0)) (d (Inferred 1), c (Inferred 1)) (d (Inferred 2), c (Inferred 2)) (d (Inferred 3), c (Inferred 3)) (d (Inferred 4), c (Inferred 4)) fl no_frames
+  filled_fits prim.Map5 at u U q fl d c = map5_fits N types τ W S one m at (q (Inferred 0)) (q (Inferred 1)) (q (Inferred 2)) (q (Inferred 3)) (q (Inferred 4)) (q (Inferred 5)) (d (Inferred 0), c (Inferred 0)) (d (Inferred 1), c (Inferred 1)) (d (Inferred 2), c (Inferred 2)) (d (Inferred 3), c (Inferred 3)) (d (Inferred 4), c (Inferred 4)) (d (Inferred 5), c (Inferred 5)) fl no_frames
+  filled_fits prim.Reduce at u U q fl d c = reduce_fits N types τ W S one m (q (Inferred 0)) (d (Inferred 0)) (c (Inferred 0)) at
+  filled_fits prim.ReduceComm at u U q fl d c = reduce_comm_fits N types τ W S one m (q (Inferred 0)) (d (Inferred 0)) (c (Inferred 0)) at
+  filled_fits prim.Scan at u U q fl d c = scan_fits N types τ W S one m (q (Inferred 0)) (d (Inferred 0)) (c (Inferred 0)) at
+  filled_fits prim.Filter at u U q fl d c = filter_fits N types τ W S one m (q (Inferred 0)) (d (Inferred 0)) (c (Inferred 0)) at no_frames
+  filled_fits prim.Partition at u U q fl d c = partition_fits N types τ W S one m (q (Inferred 0)) (d (Inferred 0)) (c (Inferred 0)) at no_frames
+  filled_fits prim.Transpose at u U q fl d c = transpose_fits N types τ W S one m (q (Inferred 0)) (d (Inferred 0)) (c (Inferred 0)) at no_frames
+  filled_fits prim.Tabulate at u U q fl d c = tabulate_fits (q (Inferred 0)) (d (Inferred 0)) (c (Inferred 0)) at
+  filled_fits prim.Length at u U q fl d c = length_fits (q (Inferred 0)) at
+  filled_fits prim.Iota at u U q fl d c = iota_fits at
+  filled_fits prim.Reverse at u U q fl d c = reverse_fits N types τ W S one m (q (Inferred 0)) (d (Inferred 0)) (c (Inferred 0)) at no_frames
+  filled_fits prim.Indices at u U q fl d c = indices_fits N types τ W S one m (q (Inferred 0)) (d (Inferred 0)) (c (Inferred 0)) at no_frames
+  filled_fits prim.Null at u U q fl d c = null_fits N types τ W S one m (q (Inferred 0)) (d (Inferred 0)) (c (Inferred 0)) at no_frames
+  filled_fits prim.Head at u U q fl d c = head_fits N types τ W S one m (q (Inferred 0)) (d (Inferred 0)) (c (Inferred 0)) at no_frames
+  filled_fits prim.Last at u U q fl d c = last_fits N types τ W S one m (q (Inferred 0)) (d (Inferred 0)) (c (Inferred 0)) at no_frames
+  filled_fits prim.Init at u U q fl d c = init_fits N types τ W S one m (q (Inferred 0)) (d (Inferred 0)) (c (Inferred 0)) at no_frames
+  filled_fits prim.Tail at u U q fl d c = tail_fits N types τ W S one m (q (Inferred 0)) (d (Inferred 0)) (c (Inferred 0)) at no_frames
+  filled_fits prim.Copy at u U q fl d c = copy_fits N types τ W S one m (q (Inferred 0)) (d (Inferred 0)) (c (Inferred 0)) at no_frames
+  filled_fits prim.Take at u U q fl d c = take_fits N types τ W S one m (q (Inferred 0)) (d (Inferred 0)) (c (Inferred 0)) at no_frames
+  filled_fits prim.Drop at u U q fl d c = drop_fits N types τ W S one m (q (Inferred 0)) (d (Inferred 0)) (c (Inferred 0)) at no_frames
+  filled_fits prim.Rotate at u U q fl d c = rotate_fits N types τ W S one m (q (Inferred 0)) (d (Inferred 0)) (c (Inferred 0)) at no_frames
+  filled_fits prim.Replicate at u U q fl d c = replicate_fits N types τ W S one m (q (Inferred 0)) (d (Inferred 0)) (c (Inferred 0)) at no_frames
+  filled_fits prim.Concat at u U q fl d c = concat_fits N types τ W S one m (q (Inferred 0)) (d (Inferred 0)) (c (Inferred 0)) at no_frames
+  filled_fits prim.Flatten at u U q fl d c = flatten_fits N types τ W S one m (q (Inferred 0)) (d (Inferred 0)) (c (Inferred 0)) at no_frames
+  filled_fits prim.Zip at u U q fl d c = zip_fits N types τ W S one m (q (Inferred 0)) (q (Inferred 1)) (d (Inferred 0)) (d (Inferred 1)) (c (Inferred 0)) (c (Inferred 1)) at no_frames
+  filled_fits prim.Unzip at u U q fl d c = unzip_fits N types τ W S one m (q (Inferred 0)) (q (Inferred 1)) (d (Inferred 0)) (d (Inferred 1)) (c (Inferred 0)) (c (Inferred 1)) at no_frames
+  filled_fits prim.Zip3 at u U q fl d c = zip3_fits N types τ W S one m (q (Inferred 0)) (q (Inferred 1)) (q (Inferred 2)) (d (Inferred 0)) (d (Inferred 1)) (d (Inferred 2)) (c (Inferred 0)) (c (Inferred 1)) (c (Inferred 2)) at no_frames
+  filled_fits prim.Unzip3 at u U q fl d c = unzip3_fits N types τ W S one m (q (Inferred 0)) (q (Inferred 1)) (q (Inferred 2)) (d (Inferred 0)) (d (Inferred 1)) (d (Inferred 2)) (c (Inferred 0)) (c (Inferred 1)) (c (Inferred 2)) at no_frames
+  filled_fits prim.Unflatten at u U q fl d c = unflatten_fits N types τ W S one m (q (Inferred 0)) (d (Inferred 0)) (c (Inferred 0)) at no_frames
+  filled_fits prim.Scatter at u U q fl d c = scatter_fits N types τ W S one m (q (Inferred 0)) (d (Inferred 0)) (c (Inferred 0)) at no_frames
+  filled_fits prim.ReduceByIndex at u U q fl d c = reduce_by_index_fits N types τ W S one m (q (Inferred 0)) (d (Inferred 0)) (c (Inferred 0)) at no_frames
+  filled_fits (prim.Convert to from) at u U q fl d c = convert_fits N types τ W S one m at no_frames to from
+  filled_fits (prim.Min t) at u U q fl d c = min_fits N types τ W S one m at no_frames t
+  filled_fits (prim.Max t) at u U q fl d c = max_fits N types τ W S one m at no_frames t
+  filled_fits (prim.Abs t) at u U q fl d c = abs_fits N types τ W S one m at no_frames t
+  filled_fits (prim.Popc t) at u U q fl d c = popc_fits N types τ W S one m at no_frames t
+  filled_fits (prim.Lowest t) at u U q fl d c = refl
+  filled_fits (prim.Highest t) at u U q fl d c = refl
+  filled_fits (prim.NumBits t) at u U q fl d c = refl
+  filled_fits (prim.Fold folding.Sum t) at u U q fl d c = fold_fits N types τ W S one m at no_frames folding.Sum t
+  filled_fits (prim.Fold folding.Product t) at u U q fl d c = fold_fits N types τ W S one m at no_frames folding.Product t
+  filled_fits (prim.Fold folding.Minimum t) at u U q fl d c = fold_fits N types τ W S one m at no_frames folding.Minimum t
+  filled_fits (prim.Fold folding.Maximum t) at u U q fl d c = fold_fits N types τ W S one m at no_frames folding.Maximum t
 
 module _ (N : Names) (types : Sub) (τ : Meant) (W : World) (S : Sound N types W.sizing) (one : One_kind_each τ) where
-  pub primitive_fits : (p : Primitive) (at : Place) (u : Size) → Plain_primitive p → Filled_use (λ v. true) (prim_size p) u → (m : Worth) → Fits N τ W.sizing (calls W) m no_frames u (primitive_use p at)
-  primitive_fits p at u pl U m = by_use U.used
+  -- the type that is filled gives no arrays where the type of the use does not
+  first_flat : {t u : Size} → Suits t u → Flat_first u → Flat_first t
+  unfolding Flat_result
+  first_flat suits_same h = h
+  first_flat (suits_parts q) h = tt
+  first_flat (suits_function {p = p} {q = q} n n' δ ρ I z a b) h = (flat_result_replaced (given δ) p 1).1 ((suits_flat_result a).0 ((flat_result_replaced (given ρ) q 1).0 h))
+
+  use_flat : (p : Primitive) (t u : Size) → (Flat_first u → Flat_first t) → Plain_use p u → Plain_use p t
+  use_flat prim.Map2 t u go h = go h
+  use_flat prim.Map3 t u go h = go h
+  use_flat prim.Map4 t u go h = go h
+  use_flat prim.Map5 t u go h = go h
+  use_flat p t u go h = tt
+
+  choice_flat : (t u : Size) → For_each_choice t u → Flat_first u → Flat_first t
+  choice_flat t u C h = subst Flat_first (sym C.is_function) ((flat_result_replaced (given C.δ) C.from 1).1 ((suits_flat_result C.parameter).0 ((flat_result_replaced (given C.ρ) C.wanted_from 1).0 (subst Flat_first C.wanted h))))
+
+  pub primitive_fits : (p : Primitive) (at : Place) (u : Size) → Plain_use p u → Filled_use (λ v. true) (prim_size p) u → (m : Worth) → Fits N τ W.sizing (calls W) m no_frames u (primitive_use p at)
+  primitive_fits p at u fl U m = by_use U.used
     where
-      by_use : Suits (filled U.types (prim_size p)) u ⊎ For_each_choice (filled U.types (prim_size p)) u → Fits N τ W.sizing (calls W) m no_frames u (primitive_use p at)
-      by_use (inl q) = suits_fits N τ W.sizing (calls W) q m (primitive_use p at) (filled_fits N types τ W S one m p at u pl U U.types U.data_types U.closed)
-      by_use (inr C) = subst (λ x. Fits N τ W.sizing (calls W) m no_frames x (primitive_use p at)) (sym C.wanted)
+      by_use : Suits (filled U.types (prim_size p)) u ⊎ ((C : For_each_choice (filled U.types (prim_size p)) u) × Never_at C.n (prim_size p)) → Fits N τ W.sizing (calls W) m no_frames u (primitive_use p at)
+      by_use (inl q) = suits_fits N τ W.sizing (calls W) q m (primitive_use p at) (filled_fits N types τ W S one m p at u U U.types (use_flat p (filled U.types (prim_size p)) u (first_flat q) fl) U.data_types U.closed)
+      by_use (inr (C, away)) = subst (λ x. Fits N τ W.sizing (calls W) m no_frames x (primitive_use p at)) (sym C.wanted)
           (instance_fits N τ W.sizing (calls W) C.chosen C.from C.to C.wanted_chosen C.wanted_from C.wanted_to C.n C.m C.δ C.ρ C.at_choice C.parameter C.result
           (λ m v x. suits_fits N τ W.sizing (calls W) C.parameter m v x) (λ m v x. suits_fits N τ W.sizing (calls W) C.result m v x) m (primitive_use p at)
-          (λ F. subst (λ x. Fits N τ W.sizing (calls W) (at_node C.n F m) no_frames x (primitive_use p at)) C.is_function (filled_fits N types τ W S one (at_node C.n F m) p at u pl U U.types U.data_types U.closed)))
+          (λ F. subst (λ x. Fits N τ W.sizing (calls W) (at_node C.n F m) no_frames x (primitive_use p at)) C.is_function (filled_fits N types τ W S one (at_node C.n F m) p at u U U.types (use_flat p (filled U.types (prim_size p)) u (choice_flat (filled U.types (prim_size p)) u C) fl) U.data_types U.closed)))

@@ -1,17 +1,18 @@
 -- How the shapes and values of a sized type depend on what its sizes are worth.
-use Rattle.std.proofs.Common.{◌≡◌, ℕ, zero, suc, ◌<◌, ◌≤◌, Bool, true, false, cond, nat_eq, refl, sym, ap, ◌∙◌, subst, arith, eqb-true}
+use Rattle.std.proofs.Common.{◌≡◌, ℕ, zero, suc, ◌+◌, ◌<◌, ◌≤◌, List, [], ◌∷◌, length, Bool, true, false, cond, nat_eq, refl, sym, ap, ◌∙◌, subst, arith, eqb-true}
 use Rattle.std.proofs.lemmas.Bool.{eqb-false}
 use Rattle.fut_typing.specs.Names.{Names}
 use Rattle.fut_value.specs.Data.{Shape, Shapes, Named_shapes, Datum, Datums, Named_datums}
 use Rattle.fut_meaning.specs.Flats.{FlatValue}
 use Rattle.fut_meaning.specs.Found.{Sizing}
 use Rattle.fut_meaning.specs.Outcomes.{Rel}
+use Rattle.fut_meaning.specs.Telling.{tells}
 use Rattle.sized_types.specs.Sizes.{Free, Const, Name, Own, Unknown, Slot, Dim, At, Bound, Variable, Size, Hole, Open, Level, Built, Fun, Sizes, no_size, size_and, replaced, all_replaced, given, opened, renaming, renamed}
 use Rattle.fut_sizes.specs.Suiting.{Each, Each_all, Scoped, Of_positions, Data, All_data}
-use Rattle.fut_sizes.specs.Rules.{Each_hole, Each_holes}
+use Rattle.fut_sizes.specs.Rules.{Any_free, Each_hole, Each_holes}
 use Rattle.sized_meaning.specs.Worth.{Worth, free, Frames, push, number}
 use Rattle.sized_meaning.specs.Shapes.{Meant, Has_shape, Have_shapes, Have_named, Has_datum, Have_data, Named_data}
-use Rattle.sized_meaning.specs.Fits.{FlatValues, FlatFields, Tells_right, Fits, All_fit, Named_fit}
+use Rattle.sized_meaning.specs.Fits.{FlatValues, FlatFields, Chosen_in, Known_size, Known_data, Flat, All_flat, Flat_result, Known_result, Told_right, Tells_right, Fits, All_fit, Named_fit}
 use Rattle.sized_meaning.proofs.Ways.{Ways, same_ways, on_array_shape_as, first_shape_as, shape_of_head_as, on_array_datum_as, first_datum_as, every_datum_as, datum_of_head_as, data_as, of_head_as, first_value_as, gives_as}
 
 abbrev pub Numbers_as : Worth → Worth → (ℕ → Dim → Dim) → (ℕ → Dim → Type 0) → (ℕ → Frames → Frames → Type 0) → Type 0
@@ -20,9 +21,9 @@ Numbers_as m m' g ok S = (j : ℕ) (φ φ' : Frames) (d : Dim) → S j φ φ' �
 abbrev pub Goes_in : (ℕ → Frames → Frames → Type 0) → Type 0
 Goes_in S = (j : ℕ) (φ φ' : Frames) (F : ℕ → ℕ) → S j φ φ' → S (suc j) (push F φ) (push F φ')
 
--- what replaces dims leaves those of a function's own frame, at its parts, as they are
-abbrev pub Keeps_own : (ℕ → Dim → Dim) → (ℕ → Frames → Frames → Type 0) → Type 1
-Keeps_own g S = (j : ℕ) (φ φ' : Frames) → S j φ φ' → (Q : ℕ → Type 0) (d : Dim) → Ways (Of_positions Q 1 d) (Of_positions Q 1 (g (suc j) d))
+-- what replaces dims leaves those of the frames inside as they are, and with them whether they are known
+abbrev pub Keeps_own : (ℕ → Dim → Dim) → (ℕ → Frames → Frames → Type 0) → Type 0
+Keeps_own g S = (j : ℕ) (φ φ' : Frames) → S j φ φ' → (ks : List ℕ) (i : ℕ) → length ks + j ≡ i → (d : Dim) → Ways (Known_size Any_free ks d) (Known_size Any_free ks (g i d))
 
 module _ (g : ℕ → Dim → Dim) where
   mutual
@@ -39,20 +40,61 @@ module _ (g : ℕ → Dim → Dim) where
     all_data_replaced no_size j = same_ways
     all_data_replaced (size_and t ts) j = let a = data_replaced t j in let b = all_data_replaced ts j in ((λ h. (a.0 h.0, b.0 h.1)), (λ h. (a.1 h.0, b.1 h.1)))
 
-  module _ (ok : ℕ → Dim → Type 0) (j : ℕ) (turns : (d : Dim) → Ways (ok 1 d) (ok 1 (g j d))) where
+  module _ (ok : ℕ → Dim → Type 0) (n j : ℕ) (turns : (d : Dim) → Ways (ok n d) (ok n (g j d))) where
     mutual
       unfolding Each Each_all Data All_data replaced all_replaced
 
-      pub own_replaced : (t : Size) → Data t → Ways (Each ok 1 t) (Each ok 1 (replaced g j t))
+      pub own_replaced : (t : Size) → Data t → Ways (Each ok n t) (Each ok n (replaced g j t))
       own_replaced (Hole a) h = same_ways
-      own_replaced (Open n v u) h = same_ways
+      own_replaced (Open k v u) h = same_ways
       own_replaced (Level d t) h = let a = turns d in let b = own_replaced t h in ((λ e. (a.0 e.0, b.0 e.1)), (λ e. (a.1 e.0, b.1 e.1)))
       own_replaced (Built k ts) h = all_own_replaced ts h
       own_replaced (Fun k p r) h = absurd h
 
-      all_own_replaced : (ts : Sizes) → All_data ts → Ways (Each_all ok 1 ts) (Each_all ok 1 (all_replaced g j ts))
+      all_own_replaced : (ts : Sizes) → All_data ts → Ways (Each_all ok n ts) (Each_all ok n (all_replaced g j ts))
       all_own_replaced no_size h = same_ways
       all_own_replaced (size_and t ts) h = let a = own_replaced t h.0 in let b = all_own_replaced ts h.1 in ((λ e. (a.0 e.0, b.0 e.1)), (λ e. (a.1 e.0, b.1 e.1)))
+
+  mutual
+    unfolding Flat All_flat replaced all_replaced
+
+    pub flat_replaced : (t : Size) (j : ℕ) → Ways (Flat t) (Flat (replaced g j t))
+    flat_replaced (Hole a) j = same_ways
+    flat_replaced (Open n v u) j = same_ways
+    flat_replaced (Level d t) j = same_ways
+    flat_replaced (Built k ts) j = all_flat_replaced ts j
+    flat_replaced (Fun k p r) j = same_ways
+
+    all_flat_replaced : (ts : Sizes) (j : ℕ) → Ways (All_flat ts) (All_flat (all_replaced g j ts))
+    all_flat_replaced no_size j = same_ways
+    all_flat_replaced (size_and t ts) j = let a = flat_replaced t j in let b = all_flat_replaced ts j in ((λ h. (a.0 h.0, b.0 h.1)), (λ h. (a.1 h.0, b.1 h.1)))
+
+  pub flat_result_replaced : (t : Size) (j : ℕ) → Ways (Flat_result t) (Flat_result (replaced g j t))
+  unfolding Flat_result replaced
+  flat_result_replaced (Hole a) j = flat_replaced (Hole a) j
+  flat_result_replaced (Open n v u) j = flat_replaced (Open n v u) j
+  flat_result_replaced (Level d t) j = flat_replaced (Level d t) j
+  flat_result_replaced (Built k ts) j = flat_replaced (Built k ts) j
+  flat_result_replaced (Fun k p r) j = flat_result_replaced r (suc j)
+
+  known_data_replaced : (ks : List ℕ) (i : ℕ) → ((d : Dim) → Ways (Known_size Any_free ks d) (Known_size Any_free ks (g i d))) → (t : Size) → Ways (Known_data Any_free ks t) (Known_data Any_free ks (replaced g i t))
+  known_data_replaced ks i turns t = (
+    (λ x. ((data_replaced t i).0 x.0, (own_replaced (λ j d. Known_size Any_free ks d) 0 i turns t x.0).0 x.1)),
+    (λ x. let d = (data_replaced t i).1 x.0 in (d, (own_replaced (λ j d. Known_size Any_free ks d) 0 i turns t d).1 x.1)),
+  )
+
+  pub known_replaced : (j : ℕ) → ((ks : List ℕ) (i : ℕ) → length ks + j ≡ i → (d : Dim) → Ways (Known_size Any_free ks d) (Known_size Any_free ks (g i d))) → (t : Size) (ks : List ℕ) (i : ℕ) → length ks + j ≡ i → Ways (Known_result Any_free ks t) (Known_result Any_free ks (replaced g i t))
+  unfolding Known_result replaced
+  known_replaced j keeps (Hole a) ks i e = known_data_replaced ks i (keeps ks i e) (Hole a)
+  known_replaced j keeps (Open n v u) ks i e = known_data_replaced ks i (keeps ks i e) (Open n v u)
+  known_replaced j keeps (Level d t) ks i e = known_data_replaced ks i (keeps ks i e) (Level d t)
+  known_replaced j keeps (Built k ts) ks i e = known_data_replaced ks i (keeps ks i e) (Built k ts)
+  known_replaced j keeps (Fun k p r) ks i e =
+      let e' : length (k ∷ ks) + j ≡ suc i = omega (arith, e) in
+      let a = known_data_replaced (k ∷ ks) (suc i) (keeps (k ∷ ks) (suc i) e') p in
+      let b = known_replaced j keeps r (k ∷ ks) (suc i) e' in
+      let c = flat_result_replaced r (suc i) in
+      ((λ x. (a.0 x.0, b.0 x.1, c.0 x.2)), (λ x. (a.1 x.0, b.1 x.1, c.1 x.2)))
 
 module _ (N : Names) (τ : Meant) (m m' : Worth) (g : ℕ → Dim → Dim) (ok : ℕ → Dim → Type 0) (S : ℕ → Frames → Frames → Type 0) (numbers : Numbers_as m m' g ok S) where
   mutual
@@ -95,23 +137,34 @@ module _ (N : Names) (τ : Meant) (m m' : Worth) (g : ℕ → Dim → Dim) (ok :
     named_data_replaced (size_and t ts) j φ φ' e q n i fs = let b = named_data_replaced ts j φ φ' e.1 q n (suc i) fs in
         ((λ x. ((λ f p. let c = x.0 f p in (c.0, c.1, (datum_replaced t j φ φ' e.0 q c.0).0 c.2)), b.0 x.1)), (λ x. ((λ f p. let c = x.0 f p in (c.0, c.1, (datum_replaced t j φ φ' e.0 q c.0).1 c.2)), b.1 x.1)))
 
+  module _ (pushed : Goes_in S) where
+    pub told_replaced : (t : Size) (j : ℕ) (φ φ' : Frames) → Each ok j t → S j φ φ' → (tell : List Shape → Shape) → Ways (Told_right N τ m φ (replaced g j t) tell) (Told_right N τ m' φ' t tell)
+    unfolding Told_right replaced Each
+    told_replaced (Hole v) j φ φ' e q tell = shape_replaced (Hole v) j φ φ' e q (tell [])
+    told_replaced (Open n v u) j φ φ' e q tell = shape_replaced (Open n v u) j φ φ' e q (tell [])
+    told_replaced (Level d t) j φ φ' e q tell = shape_replaced (Level d t) j φ φ' e q (tell [])
+    told_replaced (Built k ts) j φ φ' e q tell = shape_replaced (Built k ts) j φ φ' e q (tell [])
+    told_replaced (Fun k p r) j φ φ' e q tell = (
+      (λ x F h hp. (told_replaced r (suc j) (push F φ) (push F φ') e.1 (pushed j φ φ' F q) (λ hs. tell (h ∷ hs))).0 (x F h ((shape_replaced p (suc j) (push F φ) (push F φ') e.0 (pushed j φ φ' F q) h).1 hp))),
+      (λ x F h hp. (told_replaced r (suc j) (push F φ) (push F φ') e.1 (pushed j φ φ' F q) (λ hs. tell (h ∷ hs))).1 (x F h ((shape_replaced p (suc j) (push F φ) (push F φ') e.0 (pushed j φ φ' F q) h).0 hp))),
+    )
+
   module _ (Z : Sizing) (calls : FlatValue → FlatValue → Rel FlatValue) (pushed : Goes_in S) (owns : Keeps_own g S) where
     tells_out : (k : ℕ) (p r : Size) (j : ℕ) (φ φ' : Frames) → Each ok (suc j) p → Each ok (suc j) r → S j φ φ' → (f : FlatValue) → Tells_right N τ Z m φ k (replaced g (suc j) p) (replaced g (suc j) r) f → Tells_right N τ Z m' φ' k p r f
     tells_out k p r j φ φ' ep er q f t = (
       t.0,
-      λ dr pos F h hp.
-          (shape_replaced r (suc j) (push F φ) (push F φ') er (pushed j φ φ' F q) _).0
-          (t.1 ((data_replaced g r (suc j)).0 dr) ((own_replaced g (Of_positions (λ i. i < k)) (suc j) (owns j φ φ' q (λ i. i < k)) r dr).0 pos) F h
+      λ known F h hp.
+          (told_replaced pushed r (suc j) (push F φ) (push F φ') er (pushed j φ φ' F q) (λ hs. tells Z f (h ∷ hs))).0
+          (t.1 ((known_replaced g j (owns j φ φ' q) r (k ∷ []) (suc j) (let z : length (k ∷ []) + j ≡ suc j = omega arith in z)).0 known) F h
           ((shape_replaced p (suc j) (push F φ) (push F φ') ep (pushed j φ φ' F q) h).1 hp)),
     )
 
     tells_in : (k : ℕ) (p r : Size) (j : ℕ) (φ φ' : Frames) → Each ok (suc j) p → Each ok (suc j) r → S j φ φ' → (f : FlatValue) → Tells_right N τ Z m' φ' k p r f → Tells_right N τ Z m φ k (replaced g (suc j) p) (replaced g (suc j) r) f
     tells_in k p r j φ φ' ep er q f t = (
       t.0,
-      λ dr pos F h hp.
-          let dr' = (data_replaced g r (suc j)).1 dr in
-          (shape_replaced r (suc j) (push F φ) (push F φ') er (pushed j φ φ' F q) _).1
-          (t.1 dr' ((own_replaced g (Of_positions (λ i. i < k)) (suc j) (owns j φ φ' q (λ i. i < k)) r dr').1 pos) F h
+      λ known F h hp.
+          (told_replaced pushed r (suc j) (push F φ) (push F φ') er (pushed j φ φ' F q) (λ hs. tells Z f (h ∷ hs))).1
+          (t.1 ((known_replaced g j (owns j φ φ' q) r (k ∷ []) (suc j) (let z : length (k ∷ []) + j ≡ suc j = omega arith in z)).1 known) F h
           ((shape_replaced p (suc j) (push F φ) (push F φ') ep (pushed j φ φ' F q) h).0 hp)),
     )
 
@@ -183,9 +236,12 @@ module _ (In : Free → Type 0) (m m' : Worth) where
     pub datum_same : ((d : Free) → In d → m d ≡ m' d) → (t : Size) (j : ℕ) (φ φ' : Frames) → Each (Scoped In) j t → Same_below j φ φ' → (x : Datum) → Has_datum N τ m φ t x → Has_datum N τ m' φ' t x
     datum_same all t j φ φ' e q y x = (datum_replaced N τ m m' same (Scoped In) Same_below (numbers_same (free_same all)) t j φ φ' e q y).0 (subst (λ u. Has_datum N τ m φ u y) (sym (same_size t j)) x)
 
+    pub told_same : ((d : Free) → In d → m d ≡ m' d) → (t : Size) (j : ℕ) (φ φ' : Frames) → Each (Scoped In) j t → Same_below j φ φ' → (tell : List Shape → Shape) → Told_right N τ m φ t tell → Told_right N τ m' φ' t tell
+    told_same all t j φ φ' e q tell x = (told_replaced N τ m m' same (Scoped In) Same_below (numbers_same (free_same all)) below_goes_in t j φ φ' e q tell).0 (subst (λ u. Told_right N τ m φ u tell) (sym (same_size t j)) x)
+
     module _ (Z : Sizing) (calls : FlatValue → FlatValue → Rel FlatValue) where
       pub fits_same : ((d : Free) → In d → m d ≡ m' d) → (t : Size) (j : ℕ) (φ φ' : Frames) → Each (Scoped In) j t → Same_below j φ φ' → (v : FlatValue) → Fits N τ Z calls m φ t v → Fits N τ Z calls m' φ' t v
-      fits_same all t j φ φ' e q v h = (fits_replaced N τ m m' same (Scoped In) Same_below (numbers_same (free_same all)) Z calls below_goes_in (λ j φ φ' q Q d. same_ways) t j φ φ' e q v).0 (subst (λ u. Fits N τ Z calls m φ u v) (sym (same_size t j)) h)
+      fits_same all t j φ φ' e q v h = (fits_replaced N τ m m' same (Scoped In) Same_below (numbers_same (free_same all)) Z calls below_goes_in (λ j φ φ' q ks i z d. same_ways) t j φ φ' e q v).0 (subst (λ u. Fits N τ Z calls m φ u v) (sym (same_size t j)) h)
 
 -- ---- the nearest frame's sizes given
 abbrev Opens : Worth → (ℕ → Free) → (ℕ → Type 0) → ℕ → Frames → Frames → Type 0
@@ -211,13 +267,19 @@ numbers_opened m δ Q j φ φ' (Bound j' i) q s = by_test (nat_eq (suc j') j) re
     by_test true e = let p = eqb-true (suc j') j e in sym (q.2 j' i p (s p))
     by_test false e = q.1 j' i
 
+chosen_beyond : (ks : List ℕ) (j i : ℕ) → length ks ≤ j → Chosen_in ks j i
+unfolding Chosen_in
+chosen_beyond [] j i l = tt
+chosen_beyond (k ∷ ks) zero i l = absurd (omega (arith, l))
+chosen_beyond (k ∷ ks) (suc j) i l = chosen_beyond ks j i (omega (arith, l))
+
 opens_own : (m : Worth) (δ : ℕ → Free) (Q : ℕ → Type 0) → Keeps_own (given δ) (Opens m δ Q)
-opens_own m δ Q j φ φ' q P (At d) = same_ways
-opens_own m δ Q j φ φ' q P (Bound j' i) = by_test (nat_eq (suc j') (suc j)) refl
+opens_own m δ Q j φ φ' q ks n e (At d) = same_ways
+opens_own m δ Q j φ φ' q ks n e (Bound j' i) = by_test (nat_eq (suc j') n) refl
   where
-    by_test : (b : Bool) → nat_eq (suc j') (suc j) ≡ b → Ways (Of_positions P 1 (Bound j' i)) (Of_positions P 1 (cond b (At (δ i)) (Bound j' i)))
-    by_test true e = ((λ x. tt), (λ x z. absurd (let a = eqb-true (suc j') (suc j) e in let l = q.0 in omega (arith, a, l, z))))
-    by_test false e = same_ways
+    by_test : (b : Bool) → nat_eq (suc j') n ≡ b → Ways (Known_size Any_free ks (Bound j' i)) (Known_size Any_free ks (cond b (At (δ i)) (Bound j' i)))
+    by_test true z = ((λ x. tt), (λ x. chosen_beyond ks j' i (let a = eqb-true (suc j') n z in let l = q.0 in omega (arith, a, l, e))))
+    by_test false z = same_ways
 
 -- every dim has another property where it is replaced, one function type further out
 module _ (ok ok' : ℕ → Dim → Type 0) (g : ℕ → Dim → Dim) (turns : (j : ℕ) (d : Dim) → ok (suc j) d → ok' j (g (suc j) d)) where
@@ -249,22 +311,6 @@ module _ (ok ok' : ℕ → Dim → Type 0) where
     all_each_and : (ts : Sizes) (j : ℕ) → Each_all ok j ts → Each_all ok' j ts → Each_all (λ j d. ok j d × ok' j d) j ts
     all_each_and no_size j e e' = tt
     all_each_and (size_and t ts) j e e' = (each_and t j e.0 e'.0, all_each_and ts j e.1 e'.1)
-
--- of data, back from where dims were replaced
-module _ (ok ok' : ℕ → Dim → Type 0) (g : ℕ → Dim → Dim) (turn : (d : Dim) → ok' 0 (g 1 d) → ok 1 d) where
-  mutual
-    unfolding Each Each_all Data All_data replaced all_replaced
-
-    pub each_back : (t : Size) → Data t → Each ok' 0 (replaced g 1 t) → Each ok 1 t
-    each_back (Hole a) h e = tt
-    each_back (Open n v u) h e = tt
-    each_back (Level d t) h e = (turn d e.0, each_back t h e.1)
-    each_back (Built k ts) h e = all_each_back ts h e
-    each_back (Fun k p r) h e = absurd h
-
-    all_each_back : (ts : Sizes) → All_data ts → Each_all ok' 0 (all_replaced g 1 ts) → Each_all ok 1 ts
-    all_each_back no_size h e = tt
-    all_each_back (size_and t ts) h e = (each_back t h.0 e.0, all_each_back ts h.1 e.1)
 
 module _ (ok ok' : ℕ → Dim → Type 0) (turns : (j : ℕ) (d : Dim) → ok j d → ok' j d) where
   mutual
@@ -345,6 +391,14 @@ module _ (N : Names) (τ : Meant) (m : Worth) (δ : ℕ → Free) (Q : ℕ → T
   opened_shape φ φ' h x = (shape_replaced N τ m m (given δ) (Of_positions Q) (Opens m δ Q) (numbers_opened m δ Q) t 1 (push F φ) (push F φ) positions (starts φ) h).0
       (shape_same Any m m N τ (λ d i. refl) (opened δ t) 0 φ' (push F φ) closed (any_frames φ' (push F φ)) h x)
 
+  pub told_opened : (φ φ' : Frames) (tell : List Shape → Shape) → Told_right N τ m (push F φ) t tell → Told_right N τ m φ' (opened δ t) tell
+  told_opened φ φ' tell x = told_same Any m m N τ (λ d i. refl) (opened δ t) 0 (push F φ) φ' closed (any_frames (push F φ) φ') tell
+      ((told_replaced N τ m m (given δ) (Of_positions Q) (Opens m δ Q) (numbers_opened m δ Q) (opens_goes_in m δ Q) t 1 (push F φ) (push F φ) positions (starts φ) tell).1 x)
+
+  pub opened_told : (φ φ' : Frames) (tell : List Shape → Shape) → Told_right N τ m φ' (opened δ t) tell → Told_right N τ m (push F φ) t tell
+  opened_told φ φ' tell x = (told_replaced N τ m m (given δ) (Of_positions Q) (Opens m δ Q) (numbers_opened m δ Q) (opens_goes_in m δ Q) t 1 (push F φ) (push F φ) positions (starts φ) tell).0
+      (told_same Any m m N τ (λ d i. refl) (opened δ t) 0 φ' (push F φ) closed (any_frames φ' (push F φ)) tell x)
+
   module _ (Z : Sizing) (calls : FlatValue → FlatValue → Rel FlatValue) where
     pub fits_opened : (φ φ' : Frames) (v : FlatValue) → Fits N τ Z calls m (push F φ) t v → Fits N τ Z calls m φ' (opened δ t) v
     fits_opened φ φ' v h = fits_same Any m m N τ Z calls (λ d i. refl) (opened δ t) 0 (push F φ) φ' closed (any_frames (push F φ) φ') v
@@ -386,8 +440,8 @@ module _ (N : Names) (τ : Meant) (Z : Sizing) (calls : FlatValue → FlatValue 
   numbers_renamed worth j φ φ' (Bound j' i) q s = q j' i
 
   renames_own : Keeps_own (renaming ρ) Same_frames
-  renames_own j φ φ' q Q (At d) = same_ways
-  renames_own j φ φ' q Q (Bound j' i) = same_ways
+  renames_own j φ φ' q ks i e (At d) = same_ways
+  renames_own j φ φ' q ks n e (Bound j' i) = same_ways
 
   pub fits_renamed : ((d : Free) → free m (ρ d) ≡ free m' d) → (t : Size) (φ : Frames) (v : FlatValue) → Ways (Fits N τ Z calls m φ (renamed ρ t) v) (Fits N τ Z calls m' φ t v)
   fits_renamed worth t φ v = fits_replaced N τ m m' (renaming ρ) Any_dim Same_frames (numbers_renamed worth) Z calls frames_go_in renames_own t 0 φ φ (each_any t 0) (λ j' i. refl) v

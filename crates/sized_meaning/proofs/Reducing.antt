@@ -26,7 +26,7 @@ use Rattle.fut_sizes.specs.Rules.{Any_free}
 use Rattle.sized_meaning.specs.Worth.{Worth, Frames, no_frames, push, number}
 use Rattle.sized_meaning.specs.Shapes.{Meant, Has_shape, Has_datum}
 use Rattle.sized_meaning.specs.Finding.{One_kind_each}
-use Rattle.sized_meaning.specs.Fits.{Out_fits, Gives, word, Tells_right, Fits}
+use Rattle.sized_meaning.specs.Fits.{Out_fits, Gives, word, Told_right, Fits}
 use Rattle.sized_meaning.specs.Law.{Sound, World, told, means, calls}
 use Rattle.sized_meaning.proofs.Ways.{gives_as}
 use Rattle.sized_meaning.proofs.Outcomes.{gives_exact, gives_then, out_of}
@@ -34,7 +34,8 @@ use Rattle.sized_meaning.proofs.Scalars.{out_then}
 use Rattle.sized_meaning.proofs.Datas.{datum_fits, fits_datum}
 use Rattle.sized_meaning.proofs.Entered.{value_shaped}
 use Rattle.sized_meaning.proofs.Applications.{evaluates}
-use Rattle.sized_meaning.proofs.Mapping.{every_listed, shape_anywhere, datum_anywhere, applied_to, array_gives, array_value}
+use Rattle.sized_meaning.proofs.Known.{told_here, Tells_one, one_tells}
+use Rattle.sized_meaning.proofs.Mapping.{level_data, every_listed, shape_anywhere, datum_anywhere, applied_to, array_gives, array_value}
 
 -- ---- choices keep a property
 
@@ -150,7 +151,7 @@ module _ (N : Names) (types : Sub) (τ : Meant) (W : World) (S : Sound N types W
             (subst (λ o. Gives (Reduced ψ) (Then (the o) (job_of ((flat_names (told W)).lang W.tops) (plain W.tight) W.budget (means W) 2 f))) (sym (same_job _ q.0 hx.datum)) (reduce_job any ψ q.0 hx.datum q.1 hx.fits))))
 
         -- it tells the shape of the neutral element
-        reduce_tells : (ψ : Frames) → Tells_right N τ W.sizing m ψ 1 (Level (Bound 0 0) a) a (Primitive_value p at (value_and f (value_and ne no_value)))
+        reduce_tells : (ψ : Frames) → Tells_one N τ W.sizing m ψ 1 (Level (Bound 0 0) a) a (Primitive_value p at (value_and f (value_and ne no_value))) data_a
         unfolding Fits tells data_told
         reduce_tells ψ = (
           refl,
@@ -162,12 +163,18 @@ module _ (N : Names) (types : Sub) (τ : Meant) (W : World) (S : Sound N types W
 
         reduce_waits : (ψ : Frames) → Fits N τ W.sizing (calls W) m ψ (Fun 1 (Level (Bound 0 0) a) a) (Primitive_value p at (value_and f (value_and ne no_value)))
         unfolding Fits
-        reduce_waits ψ = (reduce_tells ψ, λ G xs eG hx. gives_as (Reduced (push G ψ)) (λ w. (G' : ℕ → ℕ) × ((i : ℕ) → i ≤ 1 → G' i ≡ G i) × Fits N τ W.sizing (calls W) m (push G' ψ) a w) _ (reduce_gives (push G ψ) xs hx) (λ w x. (G, (λ i l. refl), x)))
+        reduce_waits ψ = (one_tells N τ W.sizing m ψ 1 (Level (Bound 0 0) a) a (Primitive_value p at (value_and f (value_and ne no_value))) data_a (reduce_tells ψ), λ G xs eG hx. gives_as (Reduced (push G ψ)) (λ w. (G' : ℕ → ℕ) × ((i : ℕ) → i ≤ 1 → G' i ≡ G i) × Fits N τ W.sizing (calls W) m (push G' ψ) a w) _ (reduce_gives (push G ψ) xs hx) (λ w x. (G, (λ i l. refl), x)))
+
+      -- and before it has that, what is told of it
+      element_told : (ψ : Frames) (F G : ℕ → ℕ) (h g : Shape) → Has_shape N τ m (push F ψ) a h → Has_shape N τ m (push G (push F ψ)) a (tells W.sizing (Primitive_value p at (value_and f no_value)) (h ∷ g ∷ []))
+      unfolding Fits tells data_told
+      element_told ψ F G h g hx = subst (λ c. Has_shape N τ m (push G (push F ψ)) a (by_function (function_tells W.sizing (value_and f no_value)) (primitive_tells p (cond c ((h, None) ∷ (g, None) ∷ []) ((value_shape f, worth_of f) ∷ (h, None) ∷ (g, None) ∷ []))))) (sym hf.0.0)
+          (subst (λ t. Has_shape N τ m (push G (push F ψ)) a (by_function (function_tells W.sizing (value_and f no_value)) t)) (sym (same_told ((h, None) ∷ (g, None) ∷ []))) (shape_anywhere N types τ W S one m a closed_a (push F ψ) (push G (push F ψ)) h hx))
 
       reduce_starts : (ψ : Frames) → Fits N τ W.sizing (calls W) m ψ (Fun 0 a (Fun 1 (Level (Bound 0 0) a) a)) (Primitive_value p at (value_and f no_value))
-      unfolding Fits Data
+      unfolding Fits Told_right
       reduce_starts ψ = (
-        (refl, λ dr. absurd dr),
+        (refl, λ known F h hx G g hg. told_here N τ m (push G (push F ψ)) a data_a (λ hs. tells W.sizing (Primitive_value p at (value_and f no_value)) (h ∷ g ∷ hs)) (element_told ψ F G h g hx)),
         λ G ne eG hn. waits (λ w. (G' : ℕ → ℕ) × ((i : ℕ) → i ≤ 0 → G' i ≡ G i) × Fits N τ W.sizing (calls W) m (push G' ψ) (Fun 1 (Level (Bound 0 0) a) a) w) ne
             (gives_exact (λ w. (G' : ℕ → ℕ) × ((i : ℕ) → i ≤ 0 → G' i ≡ G i) × Fits N τ W.sizing (calls W) m (push G' ψ) (Fun 1 (Level (Bound 0 0) a) a) w) 0 (Val (Primitive_value p at (value_and f (value_and ne no_value)))) (G, (λ i l. refl), reduce_waits (push G ψ) ne hn (push G ψ))),
       )
@@ -211,7 +218,7 @@ module _ (N : Names) (types : Sub) (τ : Meant) (W : World) (S : Sound N types W
           (λ ds q. subst (λ z. Gives (Scanned ψ) (Then (the (job false (row_told ((flat_names (told W)).lang W.tops) (Of_function prim.Scan f z)) prim.Scan at z)) (job_of ((flat_names (told W)).lang W.tops) (plain W.tight) W.budget (means W) 2 f))) (sym q.2) (scan_job ψ q.0 hx.datum q.1 hx.fits)))
 
       -- it tells the shape of the array
-      scan_tells : (ψ : Frames) → Tells_right N τ W.sizing m ψ 1 (Level (Bound 0 0) a) (Level (Bound 0 0) a) (Primitive_value prim.Scan at (value_and f (value_and ne no_value)))
+      scan_tells : (ψ : Frames) → Tells_one N τ W.sizing m ψ 1 (Level (Bound 0 0) a) (Level (Bound 0 0) a) (Primitive_value prim.Scan at (value_and f (value_and ne no_value))) (level_data (Bound 0 0) a data_a)
       unfolding Fits tells data_told primitive_tells
       scan_tells ψ = (
         refl,
@@ -222,20 +229,24 @@ module _ (N : Names) (types : Sub) (τ : Meant) (W : World) (S : Sound N types W
 
       scan_waits : (ψ : Frames) → Fits N τ W.sizing (calls W) m ψ (Fun 1 (Level (Bound 0 0) a) (Level (Bound 0 0) a)) (Primitive_value prim.Scan at (value_and f (value_and ne no_value)))
       unfolding Fits
-      scan_waits ψ = (scan_tells ψ, λ G xs eG hx. gives_as (Scanned (push G ψ)) (λ w. (G' : ℕ → ℕ) × ((i : ℕ) → i ≤ 1 → G' i ≡ G i) × Fits N τ W.sizing (calls W) m (push G' ψ) (Level (Bound 0 0) a) w) _ (scan_gives (push G ψ) xs hx) (λ w x. (G, (λ i l. refl), x)))
+      scan_waits ψ = (one_tells N τ W.sizing m ψ 1 (Level (Bound 0 0) a) (Level (Bound 0 0) a) (Primitive_value prim.Scan at (value_and f (value_and ne no_value))) (level_data (Bound 0 0) a data_a) (scan_tells ψ), λ G xs eG hx. gives_as (Scanned (push G ψ)) (λ w. (G' : ℕ → ℕ) × ((i : ℕ) → i ≤ 1 → G' i ≡ G i) × Fits N τ W.sizing (calls W) m (push G' ψ) (Level (Bound 0 0) a) w) _ (scan_gives (push G ψ) xs hx) (λ w x. (G, (λ i l. refl), x)))
+
+    rows_told : (ψ : Frames) (F G : ℕ → ℕ) (h g : Shape) → Has_shape N τ m (push G (push F ψ)) (Level (Bound 0 0) a) g → Has_shape N τ m (push G (push F ψ)) (Level (Bound 0 0) a) (tells W.sizing (Primitive_value prim.Scan at (value_and f no_value)) (h ∷ g ∷ []))
+    unfolding Fits tells data_told primitive_tells
+    rows_told ψ F G h g hg = subst (λ c. Has_shape N τ m (push G (push F ψ)) (Level (Bound 0 0) a) (by_function (function_tells W.sizing (value_and f no_value)) (primitive_tells prim.Scan (cond c ((h, None) ∷ (g, None) ∷ []) ((value_shape f, worth_of f) ∷ (h, None) ∷ (g, None) ∷ []))))) (sym hf.0.0) hg
 
     scan_starts : (ψ : Frames) → Fits N τ W.sizing (calls W) m ψ (Fun 0 a (Fun 1 (Level (Bound 0 0) a) (Level (Bound 0 0) a))) (Primitive_value prim.Scan at (value_and f no_value))
-    unfolding Fits Data
+    unfolding Fits Told_right
     scan_starts ψ = (
-      (refl, λ dr. absurd dr),
+      (refl, λ known F h hx G g hg. rows_told ψ F G h g hg),
       λ G ne eG hn. evaluates N types τ W S one _ (Call (Primitive_value prim.Scan at (value_and f no_value)) ne)
           (gives_exact (λ w. (G' : ℕ → ℕ) × ((i : ℕ) → i ≤ 0 → G' i ≡ G i) × Fits N τ W.sizing (calls W) m (push G' ψ) (Fun 1 (Level (Bound 0 0) a) (Level (Bound 0 0) a)) w) 0 (Val (Primitive_value prim.Scan at (value_and f (value_and ne no_value)))) (G, (λ i l. refl), scan_waits (push G ψ) ne hn (push G ψ))),
     )
 
   pub reduce_fits : (a : Size) → Data a → Each (Scoped Any_free) 0 a → (at : Place) → Fits N τ W.sizing (calls W) m no_frames (Fun 0 (Fun 0 a (Fun 0 a a)) (Fun 0 a (Fun 1 (Level (Bound 0 0) a) a))) (Primitive_value prim.Reduce at no_value)
-  unfolding Fits Data job plain primitive_tells
+  unfolding Fits Has_shape job plain primitive_tells
   reduce_fits a d c at = (
-    (refl, λ dr. absurd dr),
+    (refl, λ known F h hx. absurd hx),
     λ F f eF hf. evaluates N types τ W S one _ (Call (Primitive_value prim.Reduce at no_value) f)
         (gives_exact (λ w. (F' : ℕ → ℕ) × ((i : ℕ) → i ≤ 0 → F' i ≡ F i) × Fits N τ W.sizing (calls W) m (push F' no_frames) (Fun 0 a (Fun 1 (Level (Bound 0 0) a) a)) w) 0 (Val (Primitive_value prim.Reduce at (value_and f no_value))) (
           F,
@@ -246,9 +257,9 @@ module _ (N : Names) (types : Sub) (τ : Meant) (W : World) (S : Sound N types W
   )
 
   pub reduce_comm_fits : (a : Size) → Data a → Each (Scoped Any_free) 0 a → (at : Place) → Fits N τ W.sizing (calls W) m no_frames (Fun 0 (Fun 0 a (Fun 0 a a)) (Fun 0 a (Fun 1 (Level (Bound 0 0) a) a))) (Primitive_value prim.ReduceComm at no_value)
-  unfolding Fits Data job plain primitive_tells
+  unfolding Fits Has_shape job plain primitive_tells
   reduce_comm_fits a d c at = (
-    (refl, λ dr. absurd dr),
+    (refl, λ known F h hx. absurd hx),
     λ F f eF hf. evaluates N types τ W S one _ (Call (Primitive_value prim.ReduceComm at no_value) f)
         (gives_exact (λ w. (F' : ℕ → ℕ) × ((i : ℕ) → i ≤ 0 → F' i ≡ F i) × Fits N τ W.sizing (calls W) m (push F' no_frames) (Fun 0 a (Fun 1 (Level (Bound 0 0) a) a)) w) 0 (Val (Primitive_value prim.ReduceComm at (value_and f no_value))) (
           F,
@@ -259,9 +270,9 @@ module _ (N : Names) (types : Sub) (τ : Meant) (W : World) (S : Sound N types W
   )
 
   pub scan_fits : (a : Size) → Data a → Each (Scoped Any_free) 0 a → (at : Place) → Fits N τ W.sizing (calls W) m no_frames (Fun 0 (Fun 0 a (Fun 0 a a)) (Fun 0 a (Fun 1 (Level (Bound 0 0) a) (Level (Bound 0 0) a)))) (Primitive_value prim.Scan at no_value)
-  unfolding Fits Data
+  unfolding Fits Has_shape
   scan_fits a d c at = (
-    (refl, λ dr. absurd dr),
+    (refl, λ known F h hx. absurd hx),
     λ F f eF hf. evaluates N types τ W S one _ (Call (Primitive_value prim.Scan at no_value) f)
         (gives_exact (λ w. (F' : ℕ → ℕ) × ((i : ℕ) → i ≤ 0 → F' i ≡ F i) × Fits N τ W.sizing (calls W) m (push F' no_frames) (Fun 0 a (Fun 1 (Level (Bound 0 0) a) (Level (Bound 0 0) a))) w) 0 (Val (Primitive_value prim.Scan at (value_and f no_value))) (F, (λ i l. refl), scan_starts a d c at (push F no_frames) f hf (push F no_frames))),
   )

@@ -33,7 +33,7 @@ use Rattle.fut_sizes.specs.Rules.{Any_free}
 use Rattle.sized_meaning.specs.Worth.{Worth, Frames, push, number}
 use Rattle.sized_meaning.specs.Shapes.{Meant, Every_datum, Has_shape, Has_datum}
 use Rattle.sized_meaning.specs.Finding.{One_kind_each}
-use Rattle.sized_meaning.specs.Fits.{Out_fits, word, Fits}
+use Rattle.sized_meaning.specs.Fits.{Out_fits, word, Chosen_in, Known_result, Fits}
 use Rattle.sized_meaning.specs.Law.{Sound, World, calls}
 use Rattle.sized_meaning.proofs.Ways.{out_as}
 use Rattle.sized_meaning.proofs.Datas.{datum_shaped}
@@ -252,10 +252,10 @@ module _ (N : Names) (types : Sub) (τ : Meant) (W : World) (S : Sound N types W
     take_job F G told d e x y = absurd x.1
 
     pub take_fits : Fits N τ W.sizing (calls W) m φ (Fun 0 i64_size (Fun 1 (Level (Bound 0 0) a) (Level (Bound 0 2) a))) (Primitive_value prim.Take at no_value)
-    unfolding plain Each
+    unfolding plain Each Known_result Chosen_in
     take_fits = two_fits N types τ W S one m prim.Take at φ 0 1 i64_size (Level (Bound 0 0) a) (Level (Bound 0 2) a) data_i64 data_B (data_array (Bound 0 2) a data_a)
         (λ Q v h. evaluates N types τ W S one Q (Call (Primitive_value prim.Take at no_value) v) h) (λ Q v w h. evaluates N types τ W S one Q (Call (Primitive_value prim.Take at (value_and v no_value)) w) h) take_job
-        (λ F v e h. (refl, λ dr low. absurd (let l = low.0 refl in omega (arith, l))))
+        (λ known F h hh G g hg. absurd (let l = known.1.0 in omega (arith, l))) (λ F v e h. (refl, λ dr low. absurd (let l = low.0 refl in omega (arith, l))))
 
     drop_job : (F G : ℕ → ℕ) (told : Shape) (d e : Datum) → Argument_is N types τ W S one m 0 F φ i64_size d → Argument_is N types τ W S one m 1 G (push F φ) (Level (Bound 0 0) a) e → Out_fits (Done_with (Met N types τ W S one m 1 G (push F φ) (Level (Bound 0 2) a))) (job false told prim.Drop at (d ∷ e ∷ []))
     unfolding Has_datum Has_shape job push word
@@ -270,10 +270,10 @@ module _ (N : Names) (types : Sub) (τ : Meant) (W : World) (S : Sound N types W
     drop_job F G told d e x y = absurd x.1
 
     pub drop_fits : Fits N τ W.sizing (calls W) m φ (Fun 0 i64_size (Fun 1 (Level (Bound 0 0) a) (Level (Bound 0 2) a))) (Primitive_value prim.Drop at no_value)
-    unfolding plain Each
+    unfolding plain Each Known_result Chosen_in
     drop_fits = two_fits N types τ W S one m prim.Drop at φ 0 1 i64_size (Level (Bound 0 0) a) (Level (Bound 0 2) a) data_i64 data_B (data_array (Bound 0 2) a data_a)
         (λ Q v h. evaluates N types τ W S one Q (Call (Primitive_value prim.Drop at no_value) v) h) (λ Q v w h. evaluates N types τ W S one Q (Call (Primitive_value prim.Drop at (value_and v no_value)) w) h) drop_job
-        (λ F v e h. (refl, λ dr low. absurd (let l = low.0 refl in omega (arith, l))))
+        (λ known F h hh G g hg. absurd (let l = known.1.0 in omega (arith, l))) (λ F v e h. (refl, λ dr low. absurd (let l = low.0 refl in omega (arith, l))))
 
     rotate_job : (F G : ℕ → ℕ) (told : Shape) (d e : Datum) → Argument_is N types τ W S one m 0 F φ i64_size d → Argument_is N types τ W S one m 1 G (push F φ) (Level (Bound 0 0) a) e → Out_fits (Done_with (Met N types τ W S one m 1 G (push F φ) (Level (Bound 0 0) a))) (job false told prim.Rotate at (d ∷ e ∷ []))
     unfolding Has_datum Has_shape job push word
@@ -289,7 +289,7 @@ module _ (N : Names) (types : Sub) (τ : Meant) (W : World) (S : Sound N types W
     unfolding plain primitive_tells
     rotate_fits = two_fits N types τ W S one m prim.Rotate at φ 0 1 i64_size (Level (Bound 0 0) a) (Level (Bound 0 0) a) data_i64 data_B data_B
         (λ Q v h. evaluates N types τ W S one Q (Call (Primitive_value prim.Rotate at no_value) v) h) (λ Q v w h. evaluates N types τ W S one Q (Call (Primitive_value prim.Rotate at (value_and v no_value)) w) h) rotate_job
-        (λ F v e h. second_tells N types τ W S one m prim.Rotate at (push F φ) 1 i64_size (Level (Bound 0 0) a) (Level (Bound 0 0) a) v data_i64 h (λ G h g hh hg. hg))
+        (λ known F h hh G g hg. hg) (λ F v e h. second_tells N types τ W S one m prim.Rotate at (push F φ) 1 i64_size (Level (Bound 0 0) a) (Level (Bound 0 0) a) v data_i64 h (λ G h g hh hg. hg) data_B)
 
     replicate_job : (F G : ℕ → ℕ) (told : Shape) (d e : Datum) → Argument_is N types τ W S one m 0 F φ i64_size d → Argument_is N types τ W S one m 0 G (push F φ) a e → Out_fits (Done_with (Met N types τ W S one m 0 G (push F φ) (Level (Bound 1 0) a))) (job false told prim.Replicate at (d ∷ e ∷ []))
     unfolding Has_datum Has_shape job push word
@@ -303,10 +303,10 @@ module _ (N : Names) (types : Sub) (τ : Meant) (W : World) (S : Sound N types W
     replicate_job F G told d e x y = absurd x.1
 
     pub replicate_fits : Fits N τ W.sizing (calls W) m φ (Fun 0 i64_size (Fun 0 a (Level (Bound 1 0) a))) (Primitive_value prim.Replicate at no_value)
-    unfolding plain primitive_tells Has_shape push
+    unfolding plain primitive_tells Has_shape push Each Known_result Chosen_in
     replicate_fits = two_fits N types τ W S one m prim.Replicate at φ 0 0 i64_size a (Level (Bound 1 0) a) data_i64 data_a (data_array (Bound 1 0) a data_a)
         (λ Q v h. evaluates N types τ W S one Q (Call (Primitive_value prim.Replicate at no_value) v) h) (λ Q v w h. evaluates N types τ W S one Q (Call (Primitive_value prim.Replicate at (value_and v no_value)) w) h) replicate_job
-        (λ F v e h. second_tells N types τ W S one m prim.Replicate at (push F φ) 0 i64_size a (Level (Bound 1 0) a) v data_i64 h (λ G h' g hh hg. (counted_worth F v e h, hg)))
+        (λ known F h hh G g hg. absurd (let l = known.1.0 in omega (arith, l))) (λ F v e h. second_tells N types τ W S one m prim.Replicate at (push F φ) 0 i64_size a (Level (Bound 1 0) a) v data_i64 h (λ G h' g hh hg. (counted_worth F v e h, hg)) (data_array (Bound 1 0) a data_a))
 
     or_met_shape : (ψ : Frames) (h g : Shape) → Has_shape N τ m ψ a h → Has_shape N τ m ψ a g → Has_shape N τ m ψ a (or_met h g)
     or_met_shape ψ (Scalar_shape s) g x y = x
@@ -340,7 +340,7 @@ module _ (N : Names) (types : Sub) (τ : Meant) (W : World) (S : Sound N types W
     concat_job F G told d e x y = absurd x.1
 
     pub concat_fits : Fits N τ W.sizing (calls W) m φ (Fun 1 (Level (Bound 0 0) a) (Fun 1 (Level (Bound 0 0) a) (Level (Bound 0 2) a))) (Primitive_value prim.Concat at no_value)
-    unfolding plain Each
+    unfolding plain Each Known_result Chosen_in
     concat_fits = two_fits N types τ W S one m prim.Concat at φ 1 1 (Level (Bound 0 0) a) (Level (Bound 0 0) a) (Level (Bound 0 2) a) data_B data_B (data_array (Bound 0 2) a data_a)
         (λ Q v h. evaluates N types τ W S one Q (Call (Primitive_value prim.Concat at no_value) v) h) (λ Q v w h. evaluates N types τ W S one Q (Call (Primitive_value prim.Concat at (value_and v no_value)) w) h) concat_job
-        (λ F v e h. (refl, λ dr low. absurd (let l = low.0 refl in omega (arith, l))))
+        (λ known F h hh G g hg. absurd (let l = known.1.0 in omega (arith, l))) (λ F v e h. (refl, λ dr low. absurd (let l = low.0 refl in omega (arith, l))))

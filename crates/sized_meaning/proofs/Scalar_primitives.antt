@@ -36,12 +36,13 @@ use Rattle.fut_sizes.specs.Suiting.{Data}
 use Rattle.sized_meaning.specs.Worth.{Worth, Frames, push}
 use Rattle.sized_meaning.specs.Shapes.{Meant, Has_shape, Has_datum}
 use Rattle.sized_meaning.specs.Finding.{One_kind_each}
-use Rattle.sized_meaning.specs.Fits.{Out_fits, Gives, Is_scalar, Fits}
+use Rattle.sized_meaning.specs.Fits.{Out_fits, Gives, Is_scalar, Told_right, Fits}
 use Rattle.sized_meaning.specs.Law.{Sound, World, calls}
 use Rattle.sized_meaning.proofs.Ways.{gives_as}
 use Rattle.sized_meaning.proofs.Outcomes.{gives_exact}
 use Rattle.sized_meaning.proofs.Scalars.{out_then, out_any, scalars_give, on_scalars_give}
 use Rattle.sized_meaning.proofs.Applications.{evaluates}
+use Rattle.sized_meaning.proofs.Known.{one_tells}
 use Rattle.sized_meaning.proofs.First_order.{Done_with, done_out, Data_one, Runs, Met, Argument_is, one_fits, second_tells}
 use Rattle.sized_meaning.proofs.Row_primitives.{data_array}
 
@@ -88,25 +89,26 @@ module _ (N : Names) (types : Sub) (τ : Meant) (W : World) (S : Sound N types W
   module _ (p : Primitive) (at : Place) (φ : Frames) (c r : ScalarType) where
     pub one_scalar_fits : ((Q : FlatValue → Type 0) (v : FlatValue) → Gives Q (the (primitive p at (v ∷ []))) → Gives Q (calls W (Primitive_value p at no_value) v)) → ((v : FlatValue) → Is_scalar c v → Out_fits (Is_scalar r) (primitive p at (v ∷ [])))
         → ((h : Shape) → by_function (function_tells W.sizing {P = Ref} {B = BindId} {S = Unit {0}} no_value) (primitive_tells p ((h, None) ∷ [])) ≡ Scalar_shape r) → Fits N τ W.sizing (calls W) m φ (Fun 0 (scalar_size c) (scalar_size r)) (Primitive_value p at no_value)
-    unfolding Fits Has_shape tells data_told
+    unfolding Fits Has_shape Told_right tells data_told
     one_scalar_fits runs law told = (
-      (refl, λ dr low F h hx. told h),
+      (refl, λ known F h hx. told h),
       λ F v e hv. runs (λ w. (F' : ℕ → ℕ) × ((i : ℕ) → i ≤ 0 → F' i ≡ F i) × Is_scalar r w) v (gives_as (Is_scalar r) (λ w. (F' : ℕ → ℕ) × ((i : ℕ) → i ≤ 0 → F' i ≡ F i) × Is_scalar r w) (the (primitive p at (v ∷ []))) (gives_exact (Is_scalar r) 0 (primitive p at (v ∷ [])) (law v hv)) (λ w h. (F, (λ i l. refl), h))),
     )
 
     pub two_scalars_fit : ((Q : FlatValue → Type 0) (v : FlatValue) → Gives Q (gives 0 (Primitive_value p at (value_and v no_value))) → Gives Q (calls W (Primitive_value p at no_value) v))
         → ((Q : FlatValue → Type 0) (v w : FlatValue) → Gives Q (the (primitive p at (v ∷ w ∷ []))) → Gives Q (calls W (Primitive_value p at (value_and v no_value)) w))
         → ((v w : FlatValue) → Is_scalar c v → Out_fits (Is_scalar r) (primitive p at (v ∷ w ∷ [])))
+        → ((h g : Shape) → by_function (function_tells W.sizing {P = Ref} {B = BindId} {S = Unit {0}} no_value) (primitive_tells p ((h, None) ∷ (g, None) ∷ [])) ≡ Scalar_shape r)
         → ((v : FlatValue) (F : ℕ → ℕ) → Fits N τ W.sizing (calls W) m (push F φ) (scalar_size c) v → (h g : Shape) → by_function (function_tells W.sizing (value_and v no_value)) (primitive_tells p ((h, worth_of v) ∷ (g, None) ∷ [])) ≡ Scalar_shape r) → Fits N τ W.sizing (calls W) m φ (Fun 0 (scalar_size c) (Fun 0 (scalar_size c) (scalar_size r))) (Primitive_value p at no_value)
-    unfolding Fits Has_shape Data
-    two_scalars_fit starts runs law told = (
-      (refl, λ dr. absurd dr),
+    unfolding Fits Has_shape Told_right tells data_told
+    two_scalars_fit starts runs law none told = (
+      (refl, λ known F h hx G g hg. none h g),
       λ F v e hv. starts (λ w. (F' : ℕ → ℕ) × ((i : ℕ) → i ≤ 0 → F' i ≡ F i) × Fits N τ W.sizing (calls W) m (push F' φ) (Fun 0 (scalar_size c) (scalar_size r)) w) v
           (gives_exact (λ w. (F' : ℕ → ℕ) × ((i : ℕ) → i ≤ 0 → F' i ≡ F i) × Fits N τ W.sizing (calls W) m (push F' φ) (Fun 0 (scalar_size c) (scalar_size r)) w) 0 (Val (Primitive_value p at (value_and v no_value))) (
             F,
             (λ i l. refl),
             (
-              second_tells N types τ W S one m p at (push F φ) 0 (scalar_size c) (scalar_size c) (scalar_size r) v tt hv (λ G h g hh hg. told v F hv h g),
+              one_tells N τ W.sizing m (push F φ) 0 (scalar_size c) (scalar_size r) (Primitive_value p at (value_and v no_value)) (scalar_data r) (second_tells N types τ W S one m p at (push F φ) 0 (scalar_size c) (scalar_size c) (scalar_size r) v (scalar_data c) hv (λ G h g hh hg. told v F hv h g) (scalar_data r)),
               λ G w e' hw. runs (λ w. (G' : ℕ → ℕ) × ((i : ℕ) → i ≤ 0 → G' i ≡ G i) × Is_scalar r w) v w (gives_as (Is_scalar r) (λ w. (G' : ℕ → ℕ) × ((i : ℕ) → i ≤ 0 → G' i ≡ G i) × Is_scalar r w) (the (primitive p at (v ∷ w ∷ []))) (gives_exact (Is_scalar r) 0 (primitive p at (v ∷ w ∷ [])) (law v w hv)) (λ w h. (G, (λ i l. refl), h))),
             ),
           )),
@@ -128,12 +130,12 @@ module _ (N : Names) (types : Sub) (τ : Meant) (W : World) (S : Sound N types W
     pub min_fits : (t : IntType) → Fits N τ W.sizing (calls W) m φ (Fun 0 (scalar_size (sort.Int t)) (Fun 0 (scalar_size (sort.Int t)) (scalar_size (sort.Int t)))) (Primitive_value (prim.Min t) at no_value)
     unfolding plain primitive_tells
     min_fits t = two_scalars_fit (prim.Min t) at φ (sort.Int t) (sort.Int t) (λ Q v h. evaluates N types τ W S one Q (Call (Primitive_value (prim.Min t) at no_value) v) h)
-        (λ Q v w h. evaluates N types τ W S one Q (Call (Primitive_value (prim.Min t) at (value_and v no_value)) w) h) (λ v w h. (extreme_gives t at v w h).0) (λ v F hv h g. refl)
+        (λ Q v w h. evaluates N types τ W S one Q (Call (Primitive_value (prim.Min t) at (value_and v no_value)) w) h) (λ v w h. (extreme_gives t at v w h).0) (λ h g. refl) (λ v F hv h g. refl)
 
     pub max_fits : (t : IntType) → Fits N τ W.sizing (calls W) m φ (Fun 0 (scalar_size (sort.Int t)) (Fun 0 (scalar_size (sort.Int t)) (scalar_size (sort.Int t)))) (Primitive_value (prim.Max t) at no_value)
     unfolding plain primitive_tells
     max_fits t = two_scalars_fit (prim.Max t) at φ (sort.Int t) (sort.Int t) (λ Q v h. evaluates N types τ W S one Q (Call (Primitive_value (prim.Max t) at no_value) v) h)
-        (λ Q v w h. evaluates N types τ W S one Q (Call (Primitive_value (prim.Max t) at (value_and v no_value)) w) h) (λ v w h. (extreme_gives t at v w h).1) (λ v F hv h g. refl)
+        (λ Q v w h. evaluates N types τ W S one Q (Call (Primitive_value (prim.Max t) at (value_and v no_value)) w) h) (λ v w h. (extreme_gives t at v w h).1) (λ h g. refl) (λ v F hv h g. refl)
 
     -- ---- an array of scalars, combined
 

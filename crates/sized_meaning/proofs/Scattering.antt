@@ -22,7 +22,7 @@ use Rattle.fut_meaning.specs.Jobs.{Job, Choose_each, Shown, shown, Is_one_of, So
 use Rattle.fut_meaning.specs.Meaning.{plain, no_function, job_of}
 use Rattle.fut_meaning.specs.Outcomes.{Out, Val, Rel, the, Then}
 use Rattle.fut_meaning.specs.Places.{row_of as told_row}
-use Rattle.fut_meaning.specs.Telling.{worth_of, primitive_tells}
+use Rattle.fut_meaning.specs.Telling.{worth_of, value_shape, primitive_tells}
 use Rattle.fut_meaning.specs.Values.{Primitive_value, no_value, value_and, Call}
 use Rattle.fut_meaning.proofs.Data.{datum_of_as}
 use Rattle.fut_meaning.proofs.Safe.{Every}
@@ -33,13 +33,14 @@ use Rattle.fut_sizes.specs.Rules.{Any_free}
 use Rattle.sized_meaning.specs.Worth.{Worth, Frames, push, number}
 use Rattle.sized_meaning.specs.Shapes.{Meant, Has_shape, Has_datum}
 use Rattle.sized_meaning.specs.Finding.{One_kind_each}
-use Rattle.sized_meaning.specs.Fits.{Out_fits, Gives, word, Fits}
+use Rattle.sized_meaning.specs.Fits.{Out_fits, Gives, word, Chosen_in, Known_result, Fits}
 use Rattle.sized_meaning.specs.Law.{Sound, World, told, means, calls}
 use Rattle.sized_meaning.proofs.Ways.{out_as}
 use Rattle.sized_meaning.proofs.Outcomes.{gives_exact, gives_then}
 use Rattle.sized_meaning.proofs.Scalars.{out_then, out_any}
 use Rattle.sized_meaning.proofs.Datas.{datum_fits}
 use Rattle.sized_meaning.proofs.Applications.{evaluates}
+use Rattle.sized_meaning.proofs.Entered.{value_shaped}
 use Rattle.sized_meaning.proofs.Mapping.{every_listed, shape_anywhere, datum_anywhere, array_of_rows}
 use Rattle.sized_meaning.proofs.Reducing.{gives_all_of}
 use Rattle.sized_meaning.proofs.First_order.{checked_out, Done_with, done_gives, Met, Given, Argument_is, three_fits, third_tells}
@@ -145,12 +146,14 @@ module _ (N : Names) (types : Sub) (τ : Meant) (W : World) (S : Sound N types W
 
       pub scatter_fits : Fits N τ W.sizing (calls W) m φ (Fun 1 (Level (Bound 0 0) a) (Fun 1 (Level (Bound 0 0) i64_size) (Fun 0 (Level (Bound 1 0) a) (Level (Bound 2 0) a)))) (Primitive_value prim.Scatter at no_value)
       unfolding plain primitive_tells push
-      scatter_fits = three_fits N types τ W S one m prim.Scatter at φ 1 1 0 (Level (Bound 0 0) a) (Level (Bound 0 0) i64_size) (Level (Bound 1 0) a) (Level (Bound 2 0) a) (data_array (Bound 0 0) a data_a) (data_array (Bound 0 0) i64_size data_i64) (data_array (Bound 1 0) a data_a)
+      scatter_fits = three_fits N types τ W S one m prim.Scatter at φ 1 1 0 (Level (Bound 0 0) a) (Level (Bound 0 0) i64_size) (Level (Bound 1 0) a) (Level (Bound 2 0) a) (data_array (Bound 0 0) a data_a) (data_array (Bound 0 0) i64_size data_i64) (data_array (Bound 1 0) a data_a) (data_array (Bound 2 0) a data_a)
           (λ Q u h. evaluates N types τ W S one Q (Call (Primitive_value prim.Scatter at no_value) u) h) (λ Q u v h. evaluates N types τ W S one Q (Call (Primitive_value prim.Scatter at (value_and u no_value)) v) h)
           (λ Q u v w h. evaluates N types τ W S one Q (Call (Primitive_value prim.Scatter at (value_and u (value_and v no_value))) w) h)
           (λ F G H row d e g x y z. scatter_gives F G H row d e g x y z)
+          (λ known F h hh G g hg H x hx. array_moved (push F φ) (push H (push G (push F φ))) (Bound 0 0) (Bound 2 0) h refl hh)
+          (λ F u eu hu known G g hg H x hx. array_moved (push F φ) (push H (push G (push F φ))) (Bound 0 0) (Bound 2 0) (value_shape u) refl (value_shaped N τ W.sizing (calls W) m (push F φ) (Level (Bound 0 0) a) (data_array (Bound 0 0) a data_a) u hu))
           (λ F u eu hu G v ev hv. third_tells N types τ W S one m prim.Scatter at (push G (push F φ)) (push F φ) (push G (push F φ)) 0 (Level (Bound 0 0) a) (Level (Bound 0 0) i64_size) (Level (Bound 1 0) a) (Level (Bound 2 0) a) u v (data_array (Bound 0 0) a data_a) (data_array (Bound 0 0) i64_size data_i64) hu hv
-          (λ H h g k hh hg hk. array_moved (push F φ) (push H (push G (push F φ))) (Bound 0 0) (Bound 2 0) h refl hh))
+          (λ H h g k hh hg hk. array_moved (push F φ) (push H (push G (push F φ))) (Bound 0 0) (Bound 2 0) h refl hh) (data_array (Bound 2 0) a data_a))
 
       -- ---- unflatten
 
@@ -196,11 +199,12 @@ module _ (N : Names) (types : Sub) (τ : Meant) (W : World) (S : Sound N types W
       groups_shape F G H k x y p q h = absurd h
 
       pub unflatten_fits : Fits N τ W.sizing (calls W) m φ (Fun 0 i64_size (Fun 0 i64_size (Fun 1 (Level (Bound 0 0) a) (Level (Bound 2 0) (Level (Bound 1 0) a))))) (Primitive_value prim.Unflatten at no_value)
-      unfolding plain primitive_tells
-      unflatten_fits = three_fits N types τ W S one m prim.Unflatten at φ 0 0 1 i64_size i64_size (Level (Bound 0 0) a) (Level (Bound 2 0) (Level (Bound 1 0) a)) data_i64 data_i64 (data_array (Bound 0 0) a data_a)
+      unfolding plain primitive_tells Each Known_result Chosen_in
+      unflatten_fits = three_fits N types τ W S one m prim.Unflatten at φ 0 0 1 i64_size i64_size (Level (Bound 0 0) a) (Level (Bound 2 0) (Level (Bound 1 0) a)) data_i64 data_i64 (data_array (Bound 0 0) a data_a) (data_array (Bound 2 0) (Level (Bound 1 0) a) (data_array (Bound 1 0) a data_a))
           (λ Q u h. evaluates N types τ W S one Q (Call (Primitive_value prim.Unflatten at no_value) u) h) (λ Q u v h. evaluates N types τ W S one Q (Call (Primitive_value prim.Unflatten at (value_and u no_value)) v) h)
           (λ Q u v w h. evaluates N types τ W S one Q (Call (Primitive_value prim.Unflatten at (value_and u (value_and v no_value))) w) h)
           (λ F G H row d e g x y z. done_gives N types τ W S one m (Met N types τ W S one m 1 H (push G (push F φ)) (Level (Bound 2 0) (Level (Bound 1 0) a))) (Given N types τ W S one m 1 H (push G (push F φ)) (Level (Bound 2 0) (Level (Bound 1 0) a))) 0 no_function (job false row prim.Unflatten at (d ∷ e ∷ g ∷ [])) (unflatten_job F G H row d e g x y z)
           (λ y q. (q.0, q.1, datum_fits N τ W.sizing (calls W) m (push q.0 (push G (push F φ))) (Level (Bound 2 0) (Level (Bound 1 0) a)) (data_array (Bound 2 0) (Level (Bound 1 0) a) (data_array (Bound 1 0) a data_a)) (as_value y) y (datum_of_as Ref BindId (Unit {0}) y) q.2)))
+          (λ known F h hh G g hg H x hx. absurd (let l = known.1.0 in omega (arith, l))) (λ F u eu hu known G g hg H x hx. absurd (let l = known.1.1.0 in omega (arith, l)))
           (λ F u eu hu G v ev hv. third_tells N types τ W S one m prim.Unflatten at (push G (push F φ)) (push F φ) (push G (push F φ)) 1 i64_size i64_size (Level (Bound 0 0) a) (Level (Bound 2 0) (Level (Bound 1 0) a)) u v data_i64 data_i64 hu hv
-          (λ H h g k hh hg hk. groups_shape F G H k (count (worth_of u)) (count (worth_of v)) (counted_worth N types τ W S one m a data_a closed_a at φ F u eu hu) (counted_worth N types τ W S one m a data_a closed_a at (push F φ) G v ev hv) hk))
+          (λ H h g k hh hg hk. groups_shape F G H k (count (worth_of u)) (count (worth_of v)) (counted_worth N types τ W S one m a data_a closed_a at φ F u eu hu) (counted_worth N types τ W S one m a data_a closed_a at (push F φ) G v ev hv) hk) (data_array (Bound 2 0) (Level (Bound 1 0) a) (data_array (Bound 1 0) a data_a)))

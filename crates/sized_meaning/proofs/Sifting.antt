@@ -30,6 +30,7 @@ use Rattle.sized_meaning.proofs.Outcomes.{gives_exact, gives_then}
 use Rattle.sized_meaning.proofs.Scalars.{out_then, out_any}
 use Rattle.sized_meaning.proofs.Datas.{datum_fits}
 use Rattle.sized_meaning.proofs.Applications.{evaluates}
+use Rattle.sized_meaning.proofs.Known.{one_tells}
 use Rattle.sized_meaning.proofs.Mapping.{every_listed, shape_anywhere, datum_anywhere, array_of_rows}
 use Rattle.sized_meaning.proofs.First_order.{met_at, met_before, met_here, Met, Given}
 use Rattle.sized_meaning.proofs.Row_primitives.{every_as, data_array}
@@ -115,7 +116,7 @@ module _ (N : Names) (types : Sub) (τ : Meant) (W : World) (S : Sound N types W
     filter_waits : Fits N τ W.sizing (calls W) m φ (Fun 1 (Level (Bound 0 0) a) (Level (Bound 0 2) a)) (Primitive_value prim.Filter at (value_and f no_value))
     unfolding Fits plain Each
     filter_waits = (
-      (refl, λ dr low. absurd (let l = low.0 refl in omega (arith, l))),
+      one_tells N τ W.sizing m φ 1 (Level (Bound 0 0) a) (Level (Bound 0 2) a) (Primitive_value prim.Filter at (value_and f no_value)) (data_array (Bound 0 2) a data_a) (refl, λ dr low. absurd (let l = low.0 refl in omega (arith, l))),
       λ G xs e hx. evaluates N types τ W S one (Given N types τ W S one m 1 G φ (Level (Bound 0 2) a)) (Call (Primitive_value prim.Filter at (value_and f no_value)) xs)
           (gives_then (λ ds. ds ≡ hx.datum ∷ []) (Given N types τ W S one m 1 G φ (Level (Bound 0 2) a)) _ _
           (gives_exact (λ ds. ds ≡ hx.datum ∷ []) 0 _ (subst (λ o. Out_fits (λ ds. ds ≡ hx.datum ∷ []) (and_then o (λ d. and_then (Val []) (λ ds. Val (d ∷ ds))))) (sym hx.is_datum) refl))
@@ -125,7 +126,7 @@ module _ (N : Names) (types : Sub) (τ : Meant) (W : World) (S : Sound N types W
     partition_waits : Fits N τ W.sizing (calls W) m φ (Fun 1 (Level (Bound 0 0) a) (pair_size (Level (Bound 0 2) a) (Level (Bound 0 3) a))) (Primitive_value prim.Partition at (value_and f no_value))
     unfolding Fits plain Each
     partition_waits = (
-      (refl, λ dr low. absurd (let l = (low.0).0 refl in omega (arith, l))),
+      one_tells N τ W.sizing m φ 1 (Level (Bound 0 0) a) (pair_size (Level (Bound 0 2) a) (Level (Bound 0 3) a)) (Primitive_value prim.Partition at (value_and f no_value)) data_two (refl, λ dr low. absurd (let l = (low.0).0 refl in omega (arith, l))),
       λ G xs e hx. evaluates N types τ W S one (Given N types τ W S one m 1 G φ (pair_size (Level (Bound 0 2) a) (Level (Bound 0 3) a))) (Call (Primitive_value prim.Partition at (value_and f no_value)) xs)
           (gives_then (λ ds. ds ≡ hx.datum ∷ []) (Given N types τ W S one m 1 G φ (pair_size (Level (Bound 0 2) a) (Level (Bound 0 3) a))) _ _
           (gives_exact (λ ds. ds ≡ hx.datum ∷ []) 0 _ (subst (λ o. Out_fits (λ ds. ds ≡ hx.datum ∷ []) (and_then o (λ d. and_then (Val []) (λ ds. Val (d ∷ ds))))) (sym hx.is_datum) refl))
@@ -133,17 +134,17 @@ module _ (N : Names) (types : Sub) (τ : Meant) (W : World) (S : Sound N types W
     )
 
   pub filter_fits : (a : Size) → Data a → Each (Scoped Any_free) 0 a → (at : Place) (φ : Frames) → Fits N τ W.sizing (calls W) m φ (Fun 0 (Fun 0 a (scalar_size sort.Bool)) (Fun 1 (Level (Bound 0 0) a) (Level (Bound 0 2) a))) (Primitive_value prim.Filter at no_value)
-  unfolding Fits Data
+  unfolding Fits Has_shape
   filter_fits a d c at φ = (
-    (refl, λ dr. absurd dr),
+    (refl, λ known F h hx. absurd hx),
     λ F f e hf. evaluates N types τ W S one (Given N types τ W S one m 0 F φ (Fun 1 (Level (Bound 0 0) a) (Level (Bound 0 2) a))) (Call (Primitive_value prim.Filter at no_value) f)
         (gives_exact (Given N types τ W S one m 0 F φ (Fun 1 (Level (Bound 0 0) a) (Level (Bound 0 2) a))) 0 (Val (Primitive_value prim.Filter at (value_and f no_value))) (F, (λ i l. refl), filter_waits a d c at (push F φ) f)),
   )
 
   pub partition_fits : (a : Size) → Data a → Each (Scoped Any_free) 0 a → (at : Place) (φ : Frames) → Fits N τ W.sizing (calls W) m φ (Fun 0 (Fun 0 a (scalar_size sort.Bool)) (Fun 1 (Level (Bound 0 0) a) (pair_size (Level (Bound 0 2) a) (Level (Bound 0 3) a)))) (Primitive_value prim.Partition at no_value)
-  unfolding Fits Data
+  unfolding Fits Has_shape
   partition_fits a d c at φ = (
-    (refl, λ dr. absurd dr),
+    (refl, λ known F h hx. absurd hx),
     λ F f e hf. evaluates N types τ W S one (Given N types τ W S one m 0 F φ (Fun 1 (Level (Bound 0 0) a) (pair_size (Level (Bound 0 2) a) (Level (Bound 0 3) a)))) (Call (Primitive_value prim.Partition at no_value) f)
         (gives_exact (Given N types τ W S one m 0 F φ (Fun 1 (Level (Bound 0 0) a) (pair_size (Level (Bound 0 2) a) (Level (Bound 0 3) a)))) 0 (Val (Primitive_value prim.Partition at (value_and f no_value))) (F, (λ i l. refl), partition_waits a d c at (push F φ) f)),
   )

@@ -1,5 +1,5 @@
 -- A value of a type that suits another is of the other.
-use Rattle.std.proofs.Common.{◌≡◌, ◌⊎◌, ℕ, zero, suc, ◌<◌, ◌≤◌, [], ◌∷◌, Bool, true, false, cond, nat_eq, Ok, Err, refl, sym, ap, ◌∙◌, subst, arith, inl, inr, eqb-true, eq-eqb}
+use Rattle.std.proofs.Common.{◌≡◌, ◌⊎◌, ℕ, zero, suc, ◌<◌, ◌≤◌, List, [], ◌∷◌, Bool, true, false, cond, nat_eq, Ok, Err, refl, sym, ap, ◌∙◌, subst, arith, inl, inr, eqb-true, eq-eqb}
 use Rattle.std.proofs.lemmas.Bool.{eqb-false, ne_eqb}
 use Rattle.fut_typing.specs.Names.{Names}
 use Rattle.fut_value.specs.Data.{Shape, Shapes, Named_shapes}
@@ -12,10 +12,12 @@ use Rattle.fut_sizes.specs.Agreeing.{Answer}
 use Rattle.fut_sizes.specs.Suiting.{Each, Each_all, Scoped, Of_positions, Data, All_data, Free_of, Instance, Suits, suits_same, suits_parts, suits_function, All_suit, suit_none, suit_more}
 use Rattle.sized_meaning.specs.Worth.{Worth, free, Frames, no_frames, push}
 use Rattle.sized_meaning.specs.Shapes.{Meant, exactly, Has_shape, Have_shapes, Have_named}
-use Rattle.sized_meaning.specs.Fits.{FlatValues, FlatFields, Gives, word, Tells_right, Fits, All_fit, Named_fit}
+use Rattle.fut_sizes.specs.Rules.{Any_free}
+use Rattle.sized_meaning.specs.Fits.{FlatValues, FlatFields, Gives, word, Known_size, Known_data, Flat, All_flat, Flat_result, Known_result, Told_right, Tells_right, Fits, All_fit, Named_fit}
 use Rattle.sized_meaning.specs.Claims.{calls_of, SuitingValuesFit}
 use Rattle.sized_meaning.proofs.Ways.{Ways, same_ways, shape_of_head_as, first_shape_as, of_head_goes, first_value_goes, gives_as}
-use Rattle.sized_meaning.proofs.Reading.{each_as, each_and, each_back, each_replaced, data_replaced, Any_position, shape_same, shape_opened, opened_shape, fits_same, fits_opened, opened_fits}
+use Rattle.sized_meaning.proofs.Reading.{flat_result_replaced, each_as, Any_position, shape_same, shape_opened, opened_shape, told_same, told_opened, opened_told, fits_same, fits_opened, opened_fits}
+use Rattle.sized_meaning.proofs.Known.{scoped_both, opened_known, opened_data, known_back, known_data_back, known_low, every_known}
 
 the_ok : Size → Answer Size → Size
 the_ok u (Ok t) = t
@@ -113,6 +115,18 @@ mutual
   all_suit_each ok j suit_none h e = e
   all_suit_each ok j (suit_more q qs) h e = (suits_each ok j q h.0 e.0, all_suit_each ok j qs h.1 e.1)
 
+mutual
+  unfolding Data All_data Each Each_all
+
+  suits_each_on : (ok : ℕ → Dim → Type 0) (j : ℕ) {t u : Size} → Suits t u → Data t → Each ok j t → Each ok j u
+  suits_each_on ok j suits_same h e = e
+  suits_each_on ok j (suits_parts q) h e = all_suit_each_on ok j q h e
+  suits_each_on ok j (suits_function n n' δ ρ I z a b) h e = absurd h
+
+  all_suit_each_on : (ok : ℕ → Dim → Type 0) (j : ℕ) {ts us : Sizes} → All_suit ts us → All_data ts → Each_all ok j ts → Each_all ok j us
+  all_suit_each_on ok j suit_none h e = e
+  all_suit_each_on ok j (suit_more q qs) h e = (suits_each_on ok j q h.0 e.0, all_suit_each_on ok j qs h.1 e.1)
+
 -- neither the argument's value nor what is met
 abbrev Good : ℕ → ℕ → Free → Type 0
 Good n n' d = (i : ℕ) → (d ≡ Unknown n i → ⊥) × (d ≡ Unknown n' i → ⊥)
@@ -136,31 +150,105 @@ module _ (k : ℕ) (p r : Size) (k' : ℕ) (p' r' : Size) (n n' : ℕ) (δ ρ : 
   unfolding Each
   found_parts = I.new
 
-  good_turns : (j : ℕ) (d : Dim) → (Scoped (Free_of n) (suc j) d × Scoped (Free_of n') (suc j) d) × Of_positions (λ i. i < k') (suc j) d → Scoped (Good n n') j (given ρ (suc j) d)
-  good_turns j (At d) q = free_good n n' d q.0.0 q.0.1
-  good_turns j (Bound j' i) q = by_test (nat_eq (suc j') (suc j)) refl
+  -- what is used at a choice names these sizes, and what was chosen
+  module _ (In : Free → Type 0) where
+    abbrev Seen : Free → Type 0
+    Seen d = Good n n' d × (In d ⊎ ((i : ℕ) × (d ≡ Own n i)))
+
+    wanted_sizes : (d : Free) → In d → Free_of n d × Free_of n' d → Seen d
+    wanted_sizes d h f = (free_good n n' d f.0 f.1, inl h)
+
+    wanted_places : (i : ℕ) → i < k' → Seen (ρ i)
+    wanted_places i l = (own_good n n' i (ρ i) (I.chosen i l), inr (i, I.chosen i l))
+
+    found_places : (i : ℕ) → Seen (δ i) → i < k
+    found_places i g = ordered (nat_eq i k) refl g.0
+      where
+        before_or_after : (i < k) ⊎ (k < i) → Good n n' (δ i) → i < k
+        before_or_after (inl l) w = l
+        before_or_after (inr l) w = absurd ((w i).1 (I.met i l))
+
+        ordered : (b : Bool) → nat_eq i k ≡ b → Good n n' (δ i) → i < k
+        ordered true e w = absurd ((w k').0 (ap δ (eqb-true i k e) ∙ I.value))
+        ordered false e w = before_or_after (in_order i k (eqb-false i k e)) w
+
+    wanted_result : Known_result In (k' ∷ []) r' → Known_result Seen [] (opened ρ r')
+    wanted_result h = opened_known In (λ d. Free_of n d × Free_of n' d) Seen ρ k' wanted_sizes wanted_places r' h (scoped_both (Free_of n) (Free_of n') r' 1 wanted_parts.1 wanted_parts2.1)
+
+    wanted_parameter : Known_data In (k' ∷ []) p' → Known_data Seen [] (opened ρ p')
+    wanted_parameter h = opened_data In (λ d. Free_of n d × Free_of n' d) Seen ρ k' wanted_sizes wanted_places p' h (scoped_both (Free_of n) (Free_of n') p' 1 wanted_parts.0 wanted_parts2.0)
+
+    module _ (Other : Free → Type 0) (out : (d : Free) → Seen d → Other d → In d) where
+      found_result : Each (Scoped Other) 1 r → Known_result Seen [] (opened δ r) → Known_result In (k ∷ []) r
+      found_result s h = known_back In Other Seen δ k out found_places r h s
+
+      found_parameter : Each (Scoped Other) 1 p → Known_data Seen [] (opened δ p) → Known_data In (k ∷ []) p
+      found_parameter s h = known_data_back In Other Seen δ k out found_places p h s
+
+mutual
+  unfolding Flat All_flat
+
+  suits_flat : {t u : Size} → Suits t u → Ways (Flat t) (Flat u)
+  suits_flat suits_same = same_ways
+  suits_flat (suits_parts q) = all_suit_flat q
+  suits_flat (suits_function n n' δ ρ I z a b) = same_ways
+
+  all_suit_flat : {ts us : Sizes} → All_suit ts us → Ways (All_flat ts) (All_flat us)
+  all_suit_flat suit_none = same_ways
+  all_suit_flat (suit_more q qs) = let a = suits_flat q in let b = all_suit_flat qs in ((λ h. (a.0 h.0, b.0 h.1)), (λ h. (a.1 h.0, b.1 h.1)))
+
+pub suits_flat_result : {t u : Size} → Suits t u → Ways (Flat_result t) (Flat_result u)
+unfolding Flat_result
+suits_flat_result suits_same = same_ways
+suits_flat_result (suits_parts q) = suits_flat (suits_parts q)
+suits_flat_result (suits_function {r = r} {s = s} n n' δ ρ I z a b) = let x = flat_result_replaced (given δ) r 1 in let y = flat_result_replaced (given ρ) s 1 in let w = suits_flat_result b in ((λ h. y.1 (w.0 (x.0 h))), (λ h. x.1 (w.1 (y.0 h))))
+
+-- what suits a type of which all is known is known too
+known_suits : {t u : Size} → Suits t u → (In : Free → Type 0) → Known_result In [] u → Known_result In [] t
+unfolding Known_result Flat_result Each
+known_suits suits_same In x = x
+known_suits (suits_parts q) In x = ((suits_data (suits_parts q)).1 x.0, suits_each (λ j d. Known_size In [] d) 0 (suits_parts q) x.0 x.1)
+known_suits (suits_function {k} {l} {p} {r} {q} {s} n n' δ ρ I z a b) In x = (
+  found_parameter k p r l q s n n' δ ρ I In (Free_of n) out z.0 (let y = wanted_parameter k p r l q s n n' δ ρ I In x.0 in ((suits_data a).0 y.0, suits_each_on (λ j d. Known_size (Seen k p r l q s n n' δ ρ I In) [] d) 0 a y.0 y.1)),
+  found_result k p r l q s n n' δ ρ I In (Free_of n) out z.1 (known_suits b (Seen k p r l q s n n' δ ρ I In) (wanted_result k p r l q s n n' δ ρ I In x.1)),
+  (suits_flat_result (suits_function n n' δ ρ I z a b)).1 x.2,
+)
+  where
+    out : (d : Free) → Seen k p r l q s n n' δ ρ I In d → Free_of n d → In d
+    out d (g, inl h) f = h
+    out d (g, inr e) f = absurd (let w : Free_of n (Own n e.0) = subst (λ y. Free_of n y) e.1 f in w refl)
+
+-- ---- what is told of a type is told of one that it suits
+module _ (N : Names) (τ : Meant) where
+  module _ (k : ℕ) (p r : Size) (k' : ℕ) (p' r' : Size) (n n' : ℕ) (δ ρ : ℕ → Free) (I : Instance k p r k' p' r' n n' δ ρ) (a : Suits (opened ρ p') (opened δ p)) (b : Suits (opened δ r) (opened ρ r'))
+      (m : Worth) (F' : ℕ → ℕ) where
+    choices : (i : ℕ) → i < k' → F' i ≡ free (at_node n F' m) (ρ i)
+    choices i l = subst (λ d. F' i ≡ free (at_node n F' m) d) (sym (I.chosen i l)) (sym (own_here n F' m i))
+
+    told_at : (tell : List Shape → Shape) (x : Shape) → Known_result Any_free (k' ∷ []) r' → (Told_right N τ (at_node n F' m) no_frames (opened δ r) (λ hs. tell (x ∷ hs)) → Told_right N τ (at_node n F' m) no_frames (opened ρ r') (λ hs. tell (x ∷ hs)))
+        → ((F : ℕ → ℕ) → Has_shape N τ (at_node n F' m) (push F no_frames) p x → Told_right N τ (at_node n F' m) (push F no_frames) r (λ hs. tell (x ∷ hs))) → Has_shape N τ m (push F' no_frames) p' x → Told_right N τ m (push F' no_frames) r' (λ hs. tell (x ∷ hs))
+    told_at tell x known results told hx =
+        let Fd : ℕ → ℕ = λ i. free (at_node n F' m) (δ i) in
+        told_same (Free_of n) (at_node n F' m) m N τ (λ d o. node_else n F' m d o) r' 1 (push F' no_frames) (push F' no_frames) (wanted_parts k p r k' p' r' n n' δ ρ I).1 (λ j i l. refl) (λ hs. tell (x ∷ hs))
+        (opened_told N τ (at_node n F' m) ρ (λ i. i < k') (Free_of n) F' r' (known_low Any_free k' r' known) (wanted_parts k p r k' p' r' n n' δ ρ I).1 choices no_frames no_frames (λ hs. tell (x ∷ hs))
+        (results
+        (told_opened N τ (at_node n F' m) δ Any_position (Free_of n') Fd r (each_as (Scoped (Free_of n')) (Of_positions Any_position) (any_position (Free_of n')) r 1 (found_parts k p r k' p' r' n n' δ ρ I).1) (found_parts k p r k' p' r' n n' δ ρ I).1 (λ i u. refl) no_frames no_frames (λ hs. tell (x ∷ hs))
+        (told Fd
+        (opened_shape N τ (at_node n F' m) δ (λ i. i < k) (Free_of n') Fd p I.low (found_parts k p r k' p' r' n n' δ ρ I).0 (λ i l. refl) no_frames no_frames x
+        ((suits_shape N τ a (at_node n F' m) no_frames x).0
+        (shape_opened N τ (at_node n F' m) ρ (λ i. i < k') (Free_of n) F' p' I.wanted_low (wanted_parts k p r k' p' r' n n' δ ρ I).0 choices no_frames no_frames x
+        (shape_same (Free_of n) m (at_node n F' m) N τ (λ d o. sym (node_else n F' m d o)) p' 1 (push F' no_frames) (push F' no_frames) (wanted_parts k p r k' p' r' n n' δ ρ I).0 (λ j i l. refl) x hx))))))))
+
+  told_suits : {t u : Size} → Suits t u → (m : Worth) (tell : List Shape → Shape) → Known_result Any_free [] u → Told_right N τ m no_frames t tell → Told_right N τ m no_frames u tell
+  unfolding Told_right Known_result
+  told_suits suits_same m tell known x = x
+  told_suits (suits_parts q) m tell known x = (suits_shape N τ (suits_parts q) m no_frames (tell [])).0 x
+  told_suits (suits_function {k} {l} {p} {r} {q} {s} n n' δ ρ I z a b) m tell known x = λ F h hx. told_at k p r l q s n n' δ ρ I a b m F tell h known.1
+      (λ y. told_suits b (at_node n F m) (λ hs. tell (h ∷ hs)) (every_known (Seen k p r l q s n n' δ ρ I Any_free) (opened ρ s) (wanted_result k p r l q s n n' δ ρ I Any_free known.1)) y)
+      (λ G hp. there F G h hp) hx
     where
-      by_test : (b : Bool) → nat_eq (suc j') (suc j) ≡ b → Scoped (Good n n') j (cond b (At (ρ i)) (Bound j' i))
-      by_test true e = own_good n n' i (ρ i) (I.chosen i (q.1 (eqb-true (suc j') (suc j) e)))
-      by_test false e = let a = eqb-false (suc j') (suc j) e in let l = q.0.0 in omega (arith, a, l)
-
-  good_back : (d : Dim) → Scoped (Good n n') 0 (given δ 1 d) → Of_positions (λ i. i < k) 1 d
-  good_back (At d) g = tt
-  good_back (Bound j' i) g = λ e. ordered (nat_eq i k) refl (subst (λ b. Scoped (Good n n') 0 (cond b (At (δ i)) (Bound j' i))) (eq-eqb (suc j') 1 e) g)
-    where
-      before_or_after : (i < k) ⊎ (k < i) → Good n n' (δ i) → i < k
-      before_or_after (inl l) w = l
-      before_or_after (inr l) w = absurd ((w i).1 (I.met i l))
-
-      ordered : (b : Bool) → nat_eq i k ≡ b → Good n n' (δ i) → i < k
-      ordered true e w = absurd ((w k').0 (ap δ (eqb-true i k e) ∙ I.value))
-      ordered false e w = before_or_after (in_order i k (eqb-false i k e)) w
-
-  proper_found : Data r → Data (opened ρ r') → Suits (opened δ r) (opened ρ r') → Each (Of_positions (λ i. i < k')) 1 r' → Each (Of_positions (λ i. i < k)) 1 r
-  proper_found dr dr' b pos = each_back (Of_positions (λ i. i < k)) (Scoped (Good n n')) (given δ) good_back r dr
-      (suits_each (Scoped (Good n n')) 0 b dr'
-      (each_replaced (λ j d. (Scoped (Free_of n) j d × Scoped (Free_of n') j d) × Of_positions (λ i. i < k') j d) (Scoped (Good n n')) (given ρ) good_turns r' 0
-      (each_and (λ j d. Scoped (Free_of n) j d × Scoped (Free_of n') j d) (Of_positions (λ i. i < k')) r' 1 (each_and (Scoped (Free_of n)) (Scoped (Free_of n')) r' 1 wanted_parts.1 wanted_parts2.1) pos)))
+      there : (F : ℕ → ℕ) → Told_right N τ (at_node n F m) no_frames (Fun k p r) tell
+      there F = told_same (Free_of n) m (at_node n F m) N τ (λ d o. sym (node_else n F m d o)) (Fun k p r) 0 no_frames no_frames z (λ j i l. refl) tell x
 
 module _ (N : Names) (τ : Meant) (Z : Sizing) (calls : FlatValue → FlatValue → Rel FlatValue) where
   abbrev Takes_to : Worth → ℕ → Size → Size → FlatValue → Type 0
@@ -179,23 +267,15 @@ module _ (N : Names) (τ : Meant) (Z : Sizing) (calls : FlatValue → FlatValue 
       (parameters : (m : Worth) (v : FlatValue) → Fits N τ Z calls m no_frames (opened ρ p') v → Fits N τ Z calls m no_frames (opened δ p) v) (results : (m : Worth) (v : FlatValue) → Fits N τ Z calls m no_frames (opened δ r) v → Fits N τ Z calls m no_frames (opened ρ r') v)
       (m : Worth) (h : FlatValue) (there : (F' : ℕ → ℕ) → Fits N τ Z calls (at_node n F' m) no_frames (Fun k p r) h) where
     chosen : (F' : ℕ → ℕ) (i : ℕ) → i < k' → F' i ≡ free (at_node n F' m) (ρ i)
-    chosen F' i l = subst (λ d. F' i ≡ free (at_node n F' m) d) (sym (I.chosen i l)) (sym (own_here n F' m i))
+    chosen F' i l = choices N τ k p r k' p' r' n n' δ ρ I a b m F' i l
 
     -- what it tells
-    told_right : Data r' → Each (Of_positions (λ i. i < k')) 1 r' → (F' : ℕ → ℕ) (x : Shape) → Has_shape N τ m (push F' no_frames) p' x → Has_shape N τ m (push F' no_frames) r' (tells Z h (x ∷ []))
-    told_right dr' pos F' x hx =
-        let dr1 : Data (opened ρ r') = (data_replaced (given ρ) r' 1).0 dr' in
-        let dr2 : Data r = (data_replaced (given δ) r 1).1 ((suits_data b).1 dr1) in
-        let Fd : ℕ → ℕ = λ i. free (at_node n F' m) (δ i) in
-        shape_same (Free_of n) (at_node n F' m) m N τ (λ d o. node_else n F' m d o) r' 1 (push F' no_frames) (push F' no_frames) (wanted_parts k p r k' p' r' n n' δ ρ I).1 (λ j i l. refl) _
-        (opened_shape N τ (at_node n F' m) ρ (λ i. i < k') (Free_of n) F' r' pos (wanted_parts k p r k' p' r' n n' δ ρ I).1 (chosen F') no_frames no_frames _
-        ((suits_shape N τ b (at_node n F' m) no_frames _).0
-        (shape_opened N τ (at_node n F' m) δ Any_position (Free_of n') Fd r (each_as (Scoped (Free_of n')) (Of_positions Any_position) (any_position (Free_of n')) r 1 (found_parts k p r k' p' r' n n' δ ρ I).1) (found_parts k p r k' p' r' n n' δ ρ I).1 (λ i u. refl) no_frames no_frames _
-        ((function_of (at_node n F' m) k p r h (there F')).0.1 dr2 (proper_found k p r k' p' r' n n' δ ρ I dr2 dr1 b pos) Fd x
-        (opened_shape N τ (at_node n F' m) δ (λ i. i < k) (Free_of n') Fd p I.low (found_parts k p r k' p' r' n n' δ ρ I).0 (λ i l. refl) no_frames no_frames x
-        ((suits_shape N τ a (at_node n F' m) no_frames x).0
-        (shape_opened N τ (at_node n F' m) ρ (λ i. i < k') (Free_of n) F' p' I.wanted_low (wanted_parts k p r k' p' r' n n' δ ρ I).0 (chosen F') no_frames no_frames x
-        (shape_same (Free_of n) m (at_node n F' m) N τ (λ d o. sym (node_else n F' m d o)) p' 1 (push F' no_frames) (push F' no_frames) (wanted_parts k p r k' p' r' n n' δ ρ I).0 (λ j i l. refl) x hx))))))))
+    told_right : Known_result Any_free (k' ∷ []) r' → (F' : ℕ → ℕ) (x : Shape) → Has_shape N τ m (push F' no_frames) p' x → Told_right N τ m (push F' no_frames) r' (λ hs. tells Z h (x ∷ hs))
+    told_right known F' x hx =
+        let seen = wanted_result k p r k' p' r' n n' δ ρ I Any_free known in
+        told_at N τ k p r k' p' r' n n' δ ρ I a b m F' (tells Z h) x known
+        (λ y. told_suits N τ b (at_node n F' m) (λ hs. tells Z h (x ∷ hs)) (every_known (Seen k p r k' p' r' n n' δ ρ I Any_free) (opened ρ r') seen) y)
+        (λ F hp. (function_of (at_node n F' m) k p r h (there F')).0.1 (found_result k p r k' p' r' n n' δ ρ I Any_free (Free_of n') (λ d q o. tt) (found_parts k p r k' p' r' n n' δ ρ I).1 (known_suits b (Seen k p r k' p' r' n n' δ ρ I Any_free) seen)) F x hp) hx
 
     told_there : Tells_right N τ Z m no_frames k' p' r' h
     told_there = ((function_of (at_node n (λ i. 0) m) k p r h (there (λ i. 0))).0.0, told_right)

@@ -16,7 +16,7 @@ use Rattle.fut_meaning.specs.Flats.{FlatValue}
 use Rattle.fut_meaning.specs.Jobs.{done, alone, beside, tupled, job, tuple_part, part_shape, column}
 use Rattle.fut_meaning.specs.Meaning.{plain, no_function}
 use Rattle.fut_meaning.specs.Outcomes.{Val, and_then}
-use Rattle.fut_meaning.specs.Telling.{primitive_tells, tells, data_told}
+use Rattle.fut_meaning.specs.Telling.{value_shape, primitive_tells, tells, data_told}
 use Rattle.fut_meaning.specs.Places.{row_of as told_row, size_of as told_size}
 use Rattle.fut_meaning.specs.Values.{Primitive_value, no_value, value_and, Call}
 use Rattle.fut_meaning.proofs.Data.{datum_of_as}
@@ -32,6 +32,7 @@ use Rattle.sized_meaning.specs.Fits.{Out_fits, Fits}
 use Rattle.sized_meaning.specs.Law.{Sound, World, told, calls}
 use Rattle.sized_meaning.proofs.Datas.{datum_fits}
 use Rattle.sized_meaning.proofs.Applications.{evaluates}
+use Rattle.sized_meaning.proofs.Entered.{value_shaped}
 use Rattle.sized_meaning.proofs.Mapping.{every_listed, shape_anywhere, datum_anywhere, array_of_rows}
 use Rattle.sized_meaning.proofs.First_order.{Done_with, done_gives, Met, Given, Argument_is, three_fits, third_tells, one_fits}
 use Rattle.sized_meaning.proofs.Row_primitives.{every_as, data_array, rows_met, new_rows}
@@ -93,13 +94,14 @@ module _ (N : Names) (types : Sub) (τ : Meant) (W : World) (S : Sound N types W
 
     pub zip3_fits : Fits N τ W.sizing (calls W) m φ (Fun 1 (Level (Bound 0 0) a) (Fun 0 (Level (Bound 1 0) b) (Fun 0 (Level (Bound 2 0) c) (Level (Bound 2 0) (triple_size a b c))))) (Primitive_value prim.Zip3 at no_value)
     unfolding plain primitive_tells
-    zip3_fits = three_fits N types τ W S one m prim.Zip3 at φ 1 0 0 (Level (Bound 0 0) a) (Level (Bound 1 0) b) (Level (Bound 2 0) c) (Level (Bound 2 0) (triple_size a b c)) (data_array (Bound 0 0) a data_a) (data_array (Bound 1 0) b data_b) (data_array (Bound 2 0) c data_c)
+    zip3_fits = three_fits N types τ W S one m prim.Zip3 at φ 1 0 0 (Level (Bound 0 0) a) (Level (Bound 1 0) b) (Level (Bound 2 0) c) (Level (Bound 2 0) (triple_size a b c)) (data_array (Bound 0 0) a data_a) (data_array (Bound 1 0) b data_b) (data_array (Bound 2 0) c data_c) (data_array (Bound 2 0) (triple_size a b c) data_triple)
         (λ Q u h. evaluates N types τ W S one Q (Call (Primitive_value prim.Zip3 at no_value) u) h) (λ Q u v h. evaluates N types τ W S one Q (Call (Primitive_value prim.Zip3 at (value_and u no_value)) v) h)
         (λ Q u v w h. evaluates N types τ W S one Q (Call (Primitive_value prim.Zip3 at (value_and u (value_and v no_value))) w) h)
         (λ F G H row d e f x y z. done_gives N types τ W S one m (Met N types τ W S one m 0 H (push G (push F φ)) (Level (Bound 2 0) (triple_size a b c))) (Zipped (push G (push F φ)) H) 0 no_function (job false row prim.Zip3 at (d ∷ e ∷ f ∷ [])) (zip_job F G H row d e f x y z)
         (λ g q. (q.0, q.1, datum_fits N τ W.sizing (calls W) m (push q.0 (push G (push F φ))) (Level (Bound 2 0) (triple_size a b c)) (data_array (Bound 2 0) (triple_size a b c) data_triple) (as_value g) g (datum_of_as Ref BindId (Unit {0}) g) q.2)))
+        (λ known F h hh G g hg H x hx. zip_shape F G H h g x hh hg hx) (λ F u eu hu known G g hg H x hx. zip_shape F G H (value_shape u) g x (value_shaped N τ W.sizing (calls W) m (push F φ) (Level (Bound 0 0) a) (data_array (Bound 0 0) a data_a) u hu) hg hx)
         (λ F u eu hu G v ev hv. third_tells N types τ W S one m prim.Zip3 at (push G (push F φ)) (push F φ) (push G (push F φ)) 0 (Level (Bound 0 0) a) (Level (Bound 1 0) b) (Level (Bound 2 0) c) (Level (Bound 2 0) (triple_size a b c)) u v (data_array (Bound 0 0) a data_a) (data_array (Bound 1 0) b data_b) hu hv
-        (λ H h g k hh hg hk. zip_shape F G H h g k hh hg hk))
+        (λ H h g k hh hg hk. zip_shape F G H h g k hh hg hk) (data_array (Bound 2 0) (triple_size a b c) data_triple))
 
     -- ---- unzip3
 

@@ -26,7 +26,7 @@ use Rattle.sized_types.specs.Sizes.{Free, Name, Variable, Size, Hole, Open, Leve
 use Rattle.fut_sizes.specs.Operations.{value_of}
 use Rattle.fut_sizes.specs.Scopes.{i64_size}
 use Rattle.fut_sizes.specs.Scoping.{Context}
-use Rattle.fut_sizes.specs.Suiting.{Suits, suits_same, suits_parts, suits_function}
+use Rattle.fut_sizes.specs.Suiting.{Suits, suits_same, suits_parts, suits_function, Never_at}
 use Rattle.fut_sizes.specs.Rules.{Each_hole, Each_holes, filled, all_filled, For_each_choice, Filled_use, Sized, All_sized}
 use Rattle.sized_meaning.specs.Worth.{Worth, free, no_frames}
 use Rattle.sized_meaning.specs.Shapes.{Meant}
@@ -63,11 +63,11 @@ suits_number (suits_parts {h} {ts} {us} q) e = head_number h ts us e
 suits_number (suits_function n m δ ρ i a p r) e = absurd (let z : false ≡ true = e in cc)
 
 number_filled : (is_general : Variable → Bool) (t u : Size) → One_type is_general t → Filled_use is_general t u → is_number u ≡ true → is_number t ≡ true
-number_filled is_general t u one_type U e = by_use (subst (λ x. Suits x u ⊎ For_each_choice x u) (nothing_filled U.types t (each_hole_as (λ a. is_general a ≡ false) (λ a. U.types a ≡ Hole a) (λ a e. U.others a e) t one_type.0)) U.used)
+number_filled is_general t u one_type U e = by_use (subst (λ x. Suits x u ⊎ ((C : For_each_choice x u) × Never_at C.n t)) (nothing_filled U.types t (each_hole_as (λ a. is_general a ≡ false) (λ a. U.types a ≡ Hole a) (λ a e. U.others a e) t one_type)) U.used)
   where
-    by_use : Suits t u ⊎ For_each_choice t u → is_number t ≡ true
+    by_use : Suits t u ⊎ ((C : For_each_choice t u) × Never_at C.n t) → is_number t ≡ true
     by_use (inl q) = suits_number q e
-    by_use (inr C) = absurd (let z : false ≡ true = sym (ap is_number C.wanted) ∙ e in cc)
+    by_use (inr (C, away)) = absurd (let z : false ≡ true = sym (ap is_number C.wanted) ∙ e in cc)
 
 module _ (N : Names) (types : Sub) (τ : Meant) (W : World) (S : Sound N types W.sizing) (one : One_kind_each τ) where
   abbrev s : ℕ → Size
@@ -80,7 +80,7 @@ module _ (N : Names) (types : Sub) (τ : Meant) (W : World) (S : Sound N types W
   Beyond lo hi d = Out_beyond N types τ W lo hi d
 
   -- what a name or a literal gives
-  abbrev Part_value : FlatEnv → FlatTerm → ℕ → FlatValue → Type 0
+  abbrev pub Part_value : FlatEnv → FlatTerm → ℕ → FlatValue → Type 0
   Part_value env (Use (ref.Bound b) mark k) at v = W.sizing.is_size b.0 ≡ false → flat_look W.tops env b.0 ≡ Val v
   Part_value env (Strict (Integer c t) mark no_term) at v = v ≡ Scalar_value (integer (literal_type N types τ W S one t at) (pos c))
   Part_value env e at v = Unit {0}
@@ -97,7 +97,7 @@ module _ (N : Names) (types : Sub) (τ : Meant) (W : World) (S : Sound N types W
   part_value e at env v f r = tt
 
   -- what it is worth
-  abbrev Part_word : Worth → FlatTerm → ℕ → FlatValue → Type 0
+  abbrev pub Part_word : Worth → FlatTerm → ℕ → FlatValue → Type 0
   Part_word m (Use (ref.Bound b) mark k) at v = W.sizing.is_size b.0 ≡ false → s at ≡ i64_size → word v ≡ m (Name b.0)
   Part_word m (Strict (Integer c t) mark no_term) at v = v ≡ Scalar_value (integer (literal_type N types τ W S one t at) (pos c))
   Part_word m e at v = Unit {0}
@@ -128,7 +128,7 @@ module _ (N : Names) (types : Sub) (τ : Meant) (W : World) (S : Sound N types W
   typed_literal : (i : IntType) (c : ℕ) (v : FlatValue) → v ≡ Scalar_value (integer i (pos c)) → Is_scalar (sort.Int I64) v → i ≡ I64
   typed_literal i c v e h = let z : sort.Int i ≡ sort.Int I64 = subst (Is_scalar (sort.Int I64)) e h in cc
 
-  is_i64 : (m : Worth) (at : ℕ) (v : FlatValue) → s at ≡ i64_size → Of m (s at) v → Is_scalar (sort.Int I64) v
+  pub is_i64 : (m : Worth) (at : ℕ) (v : FlatValue) → s at ≡ i64_size → Of m (s at) v → Is_scalar (sort.Int I64) v
   unfolding Fits
   is_i64 m at v e h = subst (λ t. Of m t v) e h
 

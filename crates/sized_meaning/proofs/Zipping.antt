@@ -93,7 +93,7 @@ module _ (N : Names) (types : Sub) (τ : Meant) (W : World) (S : Sound N types W
     unfolding plain primitive_tells
     zip_fits = two_fits N types τ W S one m prim.Zip at φ 1 0 (Level (Bound 0 0) a) (Level (Bound 1 0) b) (Level (Bound 1 0) (pair_size a b)) (data_array (Bound 0 0) a data_a) (data_array (Bound 1 0) b data_b) (data_array (Bound 1 0) (pair_size a b) data_pair)
         (λ Q v h. evaluates N types τ W S one Q (Call (Primitive_value prim.Zip at no_value) v) h) (λ Q v w h. evaluates N types τ W S one Q (Call (Primitive_value prim.Zip at (value_and v no_value)) w) h) zip_job
-        (λ F v e h. second_tells N types τ W S one m prim.Zip at (push F φ) 0 (Level (Bound 0 0) a) (Level (Bound 1 0) b) (Level (Bound 1 0) (pair_size a b)) v (data_array (Bound 0 0) a data_a) h (λ G h' g hh hg. zip_shape F G h' g hh hg))
+        (λ known F h hh G g hg. zip_shape F G h g hh hg) (λ F v e h. second_tells N types τ W S one m prim.Zip at (push F φ) 0 (Level (Bound 0 0) a) (Level (Bound 1 0) b) (Level (Bound 1 0) (pair_size a b)) v (data_array (Bound 0 0) a data_a) h (λ G h' g hh hg. zip_shape F G h' g hh hg) (data_array (Bound 1 0) (pair_size a b) data_pair))
 
     -- ---- unzip
 

@@ -1,7 +1,7 @@
 -- Which values are of a sized type. A function is of one where, whatever sizes its caller chooses, it takes each value of its
 -- parameter's type to values of its result's, for some sizes that are met when it runs; and what it tells of its results is
 -- right.
-use Rattle.std.specs.Prelude.{◌≡◌, ℕ, suc, ◌<◌, ◌≤◌, true, [], ◌∷◌, Some}
+use Rattle.std.specs.Prelude.{◌≡◌, ℕ, zero, suc, ◌<◌, ◌≤◌, true, List, [], ◌∷◌, Some}
 use Rattle.fut_arithmetic.specs.Types.{type_of}
 use Rattle.fut_ast.specs.Sorts.{Text}
 use Rattle.fut_scalar.specs.Integers.{integer_of}
@@ -22,8 +22,9 @@ use Rattle.fut_meaning.specs.Outcomes.{Out, Val, Fail, Wrong, Rel}
 use Rattle.fut_meaning.specs.Values.{Scalar_value, Tuple_value, Record_value, Values, no_value, value_and, Fields, field}
 use Rattle.fut_flat.specs.declared.prim.Ref.{Ref}
 use Rattle.fut_scalar.specs.declared.place.BindId.{BindId}
-use Rattle.sized_types.specs.Sizes.{Size, Hole, Open, Level, Built, Fun, Sizes, no_size, size_and}
-use Rattle.fut_sizes.specs.Suiting.{Each, Of_positions, Data}
+use Rattle.sized_types.specs.Sizes.{Free, Dim, At, Bound, Size, Hole, Open, Level, Built, Fun, Sizes, no_size, size_and}
+use Rattle.fut_sizes.specs.Suiting.{Each, Data}
+use Rattle.fut_sizes.specs.Rules.{Any_free}
 use Rattle.sized_meaning.specs.Worth.{Worth, Frames, push}
 use Rattle.sized_meaning.specs.Shapes.{Meant, Has_shape, Has_datum}
 
@@ -87,9 +88,64 @@ Of_head head.Array P Q v = ⊥
 Of_head head.Fun P Q v = ⊥
 Of_head (head.Rigid n k) P Q v = ⊥
 
--- it is a function, and what it tells of its results is right, where they are data that name nothing that is met
+-- ---- what a function tells without running
+
+-- of the frames of the functions around, the nearest first, only what their callers choose, as many sizes as are given; of those
+-- further out anything
+unfoldable pub Chosen_in : List ℕ → ℕ → ℕ → Type 0
+Chosen_in [] j i = Unit {0}
+Chosen_in (k ∷ ks) zero i = i < k
+Chosen_in (k ∷ ks) (suc j) i = Chosen_in ks j i
+
+-- a size that is known before those functions run: of these by itself, or chosen by a caller
+abbrev pub Known_size : (Free → Type 0) → List ℕ → Dim → Type 0
+Known_size In ks (At d) = In d
+Known_size In ks (Bound j i) = Chosen_in ks j i
+
+abbrev pub Known_data : (Free → Type 0) → List ℕ → Size → Type 0
+Known_data In ks t = Data t × Each (λ j d. Known_size In ks d) 0 t
+
+-- data without arrays and type variables: its shape is one, whatever sizes are worth
+unfoldable mutual
+  pub Flat : Size → Type 0
+  Flat (Hole v) = ⊥
+  Flat (Open n v u) = ⊥
+  Flat (Level d t) = ⊥
+  Flat (Built h ts) = All_flat ts
+  Flat (Fun k p r) = ⊥
+
+  pub All_flat : Sizes → Type 0
+  All_flat no_size = Unit {0}
+  All_flat (size_and t ts) = Flat t × All_flat ts
+
+-- what a function gives once it has all its arguments
+unfoldable pub Flat_result : Size → Type 0
+Flat_result (Hole v) = Flat (Hole v)
+Flat_result (Open n v u) = Flat (Open n v u)
+Flat_result (Level d t) = Flat (Level d t)
+Flat_result (Built h ts) = Flat (Built h ts)
+Flat_result (Fun k p r) = Flat_result r
+
+-- what a function gives is such data; where it wants more arguments, these are too, and it gives no arrays in the end
+unfoldable pub Known_result : (Free → Type 0) → List ℕ → Size → Type 0
+Known_result In ks (Hole v) = Known_data In ks (Hole v)
+Known_result In ks (Open n v u) = Known_data In ks (Open n v u)
+Known_result In ks (Level d t) = Known_data In ks (Level d t)
+Known_result In ks (Built h ts) = Known_data In ks (Built h ts)
+Known_result In ks (Fun k p r) = Known_data In (k ∷ ks) p × Known_result In (k ∷ ks) r × Flat_result r
+
+-- for arguments of these shapes it is told to be of a shape of the type
+module _ (N : Names) (τ : Meant) where
+  unfoldable pub Told_right : Worth → Frames → Size → (List Shape → Shape) → Type 0
+  Told_right m φ (Hole v) tell = Has_shape N τ m φ (Hole v) (tell [])
+  Told_right m φ (Open n v u) tell = Has_shape N τ m φ (Open n v u) (tell [])
+  Told_right m φ (Level d t) tell = Has_shape N τ m φ (Level d t) (tell [])
+  Told_right m φ (Built h ts) tell = Has_shape N τ m φ (Built h ts) (tell [])
+  Told_right m φ (Fun k p r) tell = (F : ℕ → ℕ) (h : Shape) → Has_shape N τ m (push F φ) p h → Told_right m (push F φ) r (λ hs. tell (h ∷ hs))
+
+-- it is a function, and what it tells of its results is right, where they name nothing that is met
 abbrev pub Tells_right : Names → Meant → Sizing → Worth → Frames → ℕ → Size → Size → FlatValue → Type 0
-Tells_right N τ Z m φ k p r f = (is_function f ≡ true) × (Data r → Each (Of_positions (λ i. i < k)) 1 r → (F : ℕ → ℕ) (h : Shape) → Has_shape N τ m (push F φ) p h → Has_shape N τ m (push F φ) r (tells Z f (h ∷ [])))
+Tells_right N τ Z m φ k p r f = (is_function f ≡ true) × (Known_result Any_free (k ∷ []) r → (F : ℕ → ℕ) (h : Shape) → Has_shape N τ m (push F φ) p h → Told_right N τ m (push F φ) r (λ hs. tells Z f (h ∷ hs)))
 
 -- where a function called with a value means this, a sizing tells this, and type variables stand for these data
 module _ (N : Names) (τ : Meant) (Z : Sizing) (calls : FlatValue → FlatValue → Rel FlatValue) where

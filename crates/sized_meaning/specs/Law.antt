@@ -1,6 +1,6 @@
 -- Each value that a sized term may give is of its sized type. It is said here of the terms that use names and names of sizes,
--- the primitives of the list below, reckon with scalars, make and update arrays, take elements, slices and parts, make ranges,
--- tuples, records and functions, say types, coerce to constants, apply functions, bind names by lets, also those of functions of
+-- primitives, reckon with scalars, make and update arrays, take elements, slices and parts, make ranges,
+-- tuples, records and functions, say types, coerce, apply functions, bind names by lets, also those of functions of
 -- one type, choose by conditions and take turns in loops. Patterns may take the parts of tuples and records, and name sizes.
 use Rattle.std.specs.Prelude.{◌≡◌, ◌⊎◌, ℕ, suc, ◌+◌, ◌^◌, ◌<◌, Bool, true, false, List, [], ◌∷◌, map, Some, ℤ}
 use Rattle.fut_ast.specs.Sorts.{Text}
@@ -33,12 +33,12 @@ use Rattle.fut_meaning.specs.Meaning.{plain, Ever}
 use Rattle.fut_meaning.specs.Outcomes.{Val, Rel}
 use Rattle.fut_meaning.specs.Values.{Task, Evaluate, Call}
 use Rattle.sized_types.specs.Standing.{is_known}
-use Rattle.sized_types.specs.Sizes.{Free, Const, Name, Unknown, Dim, At, Variable, Size, Level, Built, Sizes, erased, no_size, size_and}
+use Rattle.sized_types.specs.Sizes.{Free, Const, Name, Unknown, Dim, At, Variable, Size, Level, Built, Fun, Sizes, erased, no_size, size_and}
 use Rattle.fut_sizes.specs.Agreeing.{is_among}
 use Rattle.fut_sizes.specs.Scopes.{i64_size, names}
 use Rattle.fut_sizes.specs.Sizing.{all_part_names, bind_ids}
 use Rattle.fut_sizes.specs.Scoping.{Context}
-use Rattle.fut_sizes.specs.Suiting.{Data, Each, Scoped}
+use Rattle.fut_sizes.specs.Suiting.{Data}
 use Rattle.fut_sizes.specs.Rules.{Each_hole, Outside, Inside, Away, Sized}
 use Rattle.fut_scalar.specs.declared.place.BindId.{BindId}
 use Rattle.fut_flat.specs.declared.prim.Ref.{Ref}
@@ -46,7 +46,7 @@ use Rattle.sized_meaning.specs.Worth.{Worth, free, no_frames}
 use Rattle.sized_meaning.specs.Shapes.{Meant, exactly}
 use Rattle.sized_meaning.specs.Finding.{Fields_are, One_shape_each, Well_formed}
 use Rattle.sized_meaning.specs.Typed.{Scalar_rule}
-use Rattle.sized_meaning.specs.Fits.{Gives, word, Fits}
+use Rattle.sized_meaning.specs.Fits.{Gives, word, Flat_result, Fits}
 
 -- ---- a sizing of a program: the fields of its records are those of the program's names, and its sized types have a form and are,
 -- without their sizes, the types of a typing
@@ -72,15 +72,9 @@ abbrev pub No_lambda : FlatTerm → Type 0
 No_lambda (Lambda ps e) = ⊥
 No_lambda e = Unit {0}
 
--- a size that has a name, or is a constant
-abbrev pub Named_size : Free → Type 0
-Named_size (Const c) = Unit {0}
-Named_size (Name b) = Unit {0}
-Named_size d = ⊥
-
--- a type of which uses choose no type variable, and whose sizes have names
+-- a type of which uses choose no type variable
 abbrev pub One_type : (Variable → Bool) → Size → Type 0
-One_type is_general t = Each_hole (λ v. is_general v ≡ false) t × Each (Scoped Named_size) 0 t
+One_type is_general t = Each_hole (λ v. is_general v ≡ false) t
 
 -- ---- terms of these forms, whose nodes have the numbers from a number on
 
@@ -113,49 +107,18 @@ abbrev pub Apart_labels : Names → List Text → Type 0
 Apart_labels N [] = Unit {0}
 Apart_labels N (f ∷ fs) = (is_among (map N.label fs) (N.label f) ≡ false) × Apart_labels N fs
 
--- a primitive of these
-abbrev pub Plain_primitive : Primitive → Type 0
-Plain_primitive prim.Map = Unit {0}
-Plain_primitive prim.Reduce = Unit {0}
-Plain_primitive prim.ReduceComm = Unit {0}
-Plain_primitive prim.Scan = Unit {0}
-Plain_primitive prim.Tabulate = Unit {0}
-Plain_primitive prim.Filter = Unit {0}
-Plain_primitive prim.Partition = Unit {0}
-Plain_primitive prim.Scatter = Unit {0}
-Plain_primitive prim.ReduceByIndex = Unit {0}
-Plain_primitive prim.Zip = Unit {0}
-Plain_primitive prim.Zip3 = Unit {0}
-Plain_primitive prim.Unzip = Unit {0}
-Plain_primitive prim.Unzip3 = Unit {0}
-Plain_primitive prim.Iota = Unit {0}
-Plain_primitive prim.Replicate = Unit {0}
-Plain_primitive prim.Indices = Unit {0}
-Plain_primitive prim.Length = Unit {0}
-Plain_primitive prim.Null = Unit {0}
-Plain_primitive prim.Head = Unit {0}
-Plain_primitive prim.Last = Unit {0}
-Plain_primitive prim.Init = Unit {0}
-Plain_primitive prim.Tail = Unit {0}
-Plain_primitive prim.Take = Unit {0}
-Plain_primitive prim.Drop = Unit {0}
-Plain_primitive prim.Reverse = Unit {0}
-Plain_primitive prim.Rotate = Unit {0}
-Plain_primitive prim.Concat = Unit {0}
-Plain_primitive prim.Flatten = Unit {0}
-Plain_primitive prim.Unflatten = Unit {0}
-Plain_primitive prim.Transpose = Unit {0}
-Plain_primitive prim.Copy = Unit {0}
-Plain_primitive (prim.Convert to from) = Unit {0}
-Plain_primitive (prim.Min t) = Unit {0}
-Plain_primitive (prim.Max t) = Unit {0}
-Plain_primitive (prim.Abs t) = Unit {0}
-Plain_primitive (prim.Popc t) = Unit {0}
-Plain_primitive (prim.Lowest t) = Unit {0}
-Plain_primitive (prim.Highest t) = Unit {0}
-Plain_primitive (prim.NumBits t) = Unit {0}
-Plain_primitive (prim.Fold k t) = Unit {0}
-Plain_primitive p = ⊥
+-- its first argument is a function that gives no arrays in the end
+abbrev pub Flat_first : Size → Type 0
+Flat_first (Fun k f r) = Flat_result f
+Flat_first t = Unit {0}
+
+-- a use of a primitive at a type
+abbrev pub Plain_use : Primitive → Size → Type 0
+Plain_use prim.Map2 t = Flat_first t
+Plain_use prim.Map3 t = Flat_first t
+Plain_use prim.Map4 t = Flat_first t
+Plain_use prim.Map5 t = Flat_first t
+Plain_use p t = Unit {0}
 
 -- a written type of data, without records
 abbrev mutual
@@ -170,17 +133,18 @@ abbrev mutual
   All_written_data no_type = Unit {0}
   All_written_data (type_and e es) = Written_data e × All_written_data es
 
--- a size that is not written, or is a constant
-abbrev pub Constant : Size_term Ref BindId → Type 0
-Constant (Size_const c) = Unit {0}
-Constant (Size_blank b) = Unit {0}
-Constant (Size_use r) = ⊥
+-- a size that is not written, or is a constant or a name
+abbrev pub Named_or_constant : Size_term Ref BindId → Type 0
+Named_or_constant (Size_const c) = Unit {0}
+Named_or_constant (Size_blank b) = Unit {0}
+Named_or_constant (Size_use (ref.Bound b)) = Unit {0}
+Named_or_constant (Size_use r) = ⊥
 
--- a written type of the form of data, whose sizes are constants
+-- a written type of the form of data, whose sizes are constants or names
 abbrev mutual
   pub Coerces : FlatType → Size → Type 0
   Coerces (Type_use p args) t = Unit {0}
-  Coerces (Array_type s e) (Level d t) = Constant s × Coerces e t
+  Coerces (Array_type s e) (Level d t) = Named_or_constant s × Coerces e t
   Coerces (Unique_type e) t = Coerces e t
   Coerces (Tuple_type es) (Built head.Tuple ts) = All_coerce es ts
   Coerces e t = ⊥
@@ -196,17 +160,16 @@ Indices [] es t = Unit {0}
 Indices (part.At ∷ ps) (term_and e es) (Level d t) = Indices ps es t
 Indices ps es t = ⊥
 
--- an index or a slice for each of the first levels of a type, of a node; the size of a slice is met there, and i is the number of the
--- next level that is kept
-abbrev pub Slices : ℕ → ℕ → List Part → Terms Ref BindId → Size → Type 0
-Slices n i [] es t = Unit {0}
-Slices n i (part.At ∷ ps) (term_and e es) (Level d t) = Slices n i ps es t
-Slices n i (part.Backwards ∷ ps) es (Level d t) = Slices n (suc i) ps es t
-Slices n i (part.Slice false false ∷ ps) es (Level d t) = Slices n (suc i) ps es t
-Slices n i (part.Slice false true ∷ ps) (term_and e es) (Level d t) = (value_of n i e ≡ Unknown n i) × Slices n (suc i) ps es t
-Slices n i (part.Slice true false ∷ ps) (term_and e es) (Level d t) = Slices n (suc i) ps es t
-Slices n i (part.Slice true true ∷ ps) (term_and e (term_and f es)) (Level d t) = (slice_size n i (is_literal 0 e) f ≡ Unknown n i) × Slices n (suc i) ps es t
-Slices n i ps es t = ⊥
+-- an index or a slice for each of the first levels of a type
+abbrev pub Slices : List Part → Terms Ref BindId → Size → Type 0
+Slices [] es t = Unit {0}
+Slices (part.At ∷ ps) (term_and e es) (Level d t) = Slices ps es t
+Slices (part.Backwards ∷ ps) es (Level d t) = Slices ps es t
+Slices (part.Slice false false ∷ ps) es (Level d t) = Slices ps es t
+Slices (part.Slice false true ∷ ps) (term_and e es) (Level d t) = Slices ps es t
+Slices (part.Slice true false ∷ ps) (term_and e es) (Level d t) = Slices ps es t
+Slices (part.Slice true true ∷ ps) (term_and e (term_and f es)) (Level d t) = Slices ps es t
+Slices ps es t = ⊥
 
 module _ (N : Names) (types : Sub) (W : World) where
   -- the types of a pattern's nodes mention nothing that these nodes make
@@ -243,11 +206,32 @@ module _ (N : Names) (types : Sub) (W : World) where
   Array_parts lo no_term at = (t : Size) × (W.sizing.size_at lo ≡ Level (At (Const 0)) t) × (is_known t ≡ true)
   Array_parts lo (term_and e es) at = Elements (types at) (term_and e es) at
 
+  -- a literal of this value, an i64
+  abbrev pub Literal : ℕ → FlatTerm → ℕ → Type 0
+  Literal c e at = (is_literal c e ≡ true) × (W.sizing.size_at at ≡ i64_size)
+
+  -- an i64 that a size may be: a name's, which is no size's name, or a literal below 2^63
+  abbrev pub Size_number : FlatTerm → ℕ → Type 0
+  Size_number (Use (ref.Bound b) mark k) at = (W.sizing.size_at at ≡ i64_size) × (W.sizing.is_size b.0 ≡ false)
+  Size_number (Strict (Integer c t) mark no_term) at = (W.sizing.size_at at ≡ i64_size) × (c < 2 ^ 63)
+  Size_number e at = ⊥
+
+  -- the size of a slice is met at its node, where i is the number of the next level that is kept; or it is the number n of `xs[:n]` and
+  -- `xs[0:n]`
+  abbrev pub Slice_sizes : ℕ → ℕ → List Part → Terms Ref BindId → ℕ → Type 0
+  Slice_sizes lo i (part.At ∷ ps) (term_and e es) at = Slice_sizes lo i ps es (at + numbers e)
+  Slice_sizes lo i (part.Backwards ∷ ps) es at = Slice_sizes lo (suc i) ps es at
+  Slice_sizes lo i (part.Slice false false ∷ ps) es at = Slice_sizes lo (suc i) ps es at
+  Slice_sizes lo i (part.Slice false true ∷ ps) (term_and e es) at = ((value_of lo i e ≡ Unknown lo i) ⊎ Size_number e at) × Slice_sizes lo (suc i) ps es (at + numbers e)
+  Slice_sizes lo i (part.Slice true false ∷ ps) (term_and e es) at = Slice_sizes lo (suc i) ps es (at + numbers e)
+  Slice_sizes lo i (part.Slice true true ∷ ps) (term_and e (term_and f es)) at = ((slice_size lo i (is_literal 0 e) f ≡ Unknown lo i) ⊎ (Literal 0 e at × Size_number f (at + numbers e))) × Slice_sizes lo (suc i) ps es (at + numbers e + numbers f)
+  Slice_sizes lo i ps es at = Unit {0}
+
   -- of data, which mentions nothing that the node of a slice meets
   abbrev pub Indexed_parts : ℕ → List Part → Terms Ref BindId → ℕ → Type 0
   Indexed_parts lo ps no_term at = ⊥
   Indexed_parts lo ps (term_and e es) at = Data (W.sizing.size_at at) × (Indices ps es (W.sizing.size_at at)
-      ⊎ (Slices lo 0 ps es (W.sizing.size_at at) × Away N types W.sizing.size_at W.sizing.home lo (1 + lo) (W.sizing.size_at at)))
+      ⊎ (Slices ps es (W.sizing.size_at at) × Slice_sizes lo 0 ps es (at + numbers e) × Away N types W.sizing.size_at W.sizing.home lo (1 + lo) (W.sizing.size_at at)))
 
   -- an index for each of the first levels of a type, and data of the type of what is left
   abbrev pub Updated_parts : Terms Ref BindId → ℕ → Size → Type 0
@@ -273,16 +257,6 @@ module _ (N : Names) (types : Sub) (W : World) where
   Declared_part e lo (term_and x no_term) at = Written_data e × Data (W.sizing.size_at at) × Away N types W.sizing.size_at W.sizing.home lo (1 + lo) (W.sizing.size_at at)
   Declared_part e lo ts at = ⊥
 
-  -- a literal of this value, an i64
-  abbrev pub Literal : ℕ → FlatTerm → ℕ → Type 0
-  Literal c e at = (is_literal c e ≡ true) × (W.sizing.size_at at ≡ i64_size)
-
-  -- an i64 that a size may be: a name's, which is no size's name, or a literal below 2^63
-  abbrev pub Size_number : FlatTerm → ℕ → Type 0
-  Size_number (Use (ref.Bound b) mark k) at = (W.sizing.size_at at ≡ i64_size) × (W.sizing.is_size b.0 ≡ false)
-  Size_number (Strict (Integer c t) mark no_term) at = (W.sizing.size_at at ≡ i64_size) × (c < 2 ^ 63)
-  Size_number e at = ⊥
-
   -- `0..<n`, `0..1..<n` and `1..2...n`, which have n elements
   abbrev pub Counts_to : Bool → End → Terms Ref BindId → ℕ → Type 0
   Counts_to false end.Below (term_and x (term_and z no_term)) at = Literal 0 x at × Size_number z (at + numbers x)
@@ -295,10 +269,10 @@ module _ (N : Names) (types : Sub) (W : World) where
   Range_parts stepped e lo ts = (t : IntType) × (element_ty (types lo) ≡ scalar_ty (sort.Int t)) × (types (lo + 1) ≡ scalar_ty (sort.Int t))
       × ((range_of (is_i64 (element_ty (types lo))) lo stepped e ts ≡ Unknown lo 0) ⊎ ((t ≡ int.I64) × Counts_to stepped e ts (lo + 1)))
 
-  -- a function's name, of one type, where the nodes of its scope begin at `at`; the body knows nothing of the let's node
-  abbrev pub Single : FlatPattern → ℕ → ℕ → Type 0
-  Single (Bound_pattern x) lo at = (W.sizing.home x.0 ≡ 1 + lo) × (is_number (W.sizing.size_at (1 + lo)) ≡ false) × One_type (λ v. true) (W.sizing.size_at (1 + lo)) × Away N types W.sizing.size_at W.sizing.home lo (1 + lo) (W.sizing.size_at at)
-  Single p lo at = ⊥
+  -- a function's name, of one type
+  abbrev pub Single : FlatPattern → ℕ → Type 0
+  Single (Bound_pattern x) lo = (is_number (W.sizing.size_at (1 + lo)) ≡ false) × One_type (λ v. true) (W.sizing.size_at (1 + lo))
+  Single p lo = ⊥
 
   -- no use of a size's name: what that is as a value is not said to be the size
   abbrev pub No_size_use : FlatTerm → Type 0
@@ -323,11 +297,11 @@ module _ (N : Names) (types : Sub) (W : World) where
   abbrev mutual
     pub Plain_term : FlatTerm → ℕ → Type 0
     Plain_term (Use (ref.Bound b) at k) lo = W.sizing.is_size b.0 ≡ true → W.sizing.size_at lo ≡ i64_size
-    Plain_term (Use (ref.Prim p) at k) lo = Plain_primitive p
+    Plain_term (Use (ref.Prim p) at k) lo = Plain_use p (W.sizing.size_at lo)
     Plain_term (Strict o mark ts) lo = Plain_operation o lo ts × Plain_terms ts (lo + own_numbers o)
     Plain_term (Lambda (pattern_and p ps) e) lo = All_simple W.sizing (pattern_and p ps) (1 + lo) × Leaves (all_part_names (pattern_and p ps)) lo (1 + lo + (pattern_numbers p + all_pattern_numbers ps)) × Plain_term e (1 + lo + (pattern_numbers p + all_pattern_numbers ps))
     Plain_term (Apply f e) lo = Plain_term f (1 + lo) × Plain_term e (1 + lo + numbers f) × No_size_use e
-    Plain_term (Let b v e) lo = Simple W.sizing b.pattern (1 + lo) × Sizes_apart (1 + lo + pattern_numbers b.pattern + numbers v) (1 + lo + pattern_numbers b.pattern + numbers v + numbers e) b.sizes b.pattern (1 + lo) × (No_lambda v ⊎ Single b.pattern lo (1 + lo + pattern_numbers b.pattern + numbers v))
+    Plain_term (Let b v e) lo = Simple W.sizing b.pattern (1 + lo) × Sizes_apart (1 + lo + pattern_numbers b.pattern + numbers v) (1 + lo + pattern_numbers b.pattern + numbers v + numbers e) b.sizes b.pattern (1 + lo) × (No_lambda v ⊎ Single b.pattern lo)
         × Plain_term v (1 + lo + pattern_numbers b.pattern) × Plain_term e (1 + lo + pattern_numbers b.pattern + numbers v)
     Plain_term (If c a b) lo = Plain_term c (1 + lo) × Plain_term a (1 + lo + numbers c) × Plain_term b (1 + lo + numbers c + numbers a)
     Plain_term (Loop mark sizes p first turns body) lo = Simple W.sizing p (1 + lo)

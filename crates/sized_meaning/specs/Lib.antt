@@ -3,6 +3,7 @@ pub mod Shapes
 pub mod Fits
 pub mod Claims
 pub mod Law
+pub mod Programs
 pub mod Finding
 pub mod Typed
 pub mod Entered

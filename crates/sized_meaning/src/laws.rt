@@ -3,6 +3,7 @@ ghost use Rattle.sized_meaning.specs.Claims.{SuitingValuesFit};
 ghost use Rattle.sized_meaning.specs.Entered.{CoercedHasItsSizes, FoundUnderNamesIsRight, LiteralRowsAreRight, ValuesRead};
 ghost use Rattle.sized_meaning.specs.Finding.{FoundIsRight, StandingIsFound, ToldIsRight};
 ghost use Rattle.sized_meaning.specs.Law.{ValuesHaveTheirSizes};
+ghost use Rattle.sized_meaning.specs.Programs.{ProgramsGiveTheirShapes, ProgramsHaveTheirSizes};
 
 /// Where a sized type suits another, each value of the one is of the other.
 #[tactic(auto, using(crate::proofs::Suiting::suiting_values_fit))]
@@ -11,12 +12,25 @@ pub fn suiting_values_fit()
 {}
 
 /// Each value that a sized term may give is of its sized type, for terms of names and names of sizes, scalars, array literals,
-/// ranges, elements, slices and updates of arrays, records, tuples, their parts and changes of fields, coercions to constants,
-/// functions and what they declare, applications, lets, also of functions of one type, branches, loops and the primitives of
-/// `Plain_primitive`; patterns may take the parts of tuples and records, and name sizes.
+/// ranges, elements, slices and updates of arrays, records, tuples, their parts and changes of fields, coercions,
+/// functions and what they declare, applications, lets, also of functions of one type, branches, loops and all primitives, `map2`
+/// to `map5` where results hold no arrays; patterns may take the parts of tuples and records, and name sizes.
 #[tactic(auto, using(crate::proofs::Law::values_have_their_sizes))]
 pub fn values_have_their_sizes()
     ensures { ValuesHaveTheirSizes }
+{}
+
+/// On arguments of its entry's sized type each value that a program gives is of the sized type of its results, with the sizes that
+/// these arguments have, where its definitions have one type each and are made of such terms.
+#[tactic(auto, using(crate::proofs::Programs::programs_have_their_sizes))]
+pub fn programs_have_their_sizes()
+    ensures { ProgramsHaveTheirSizes }
+{}
+
+/// So on data of its entry's sized type each value that a program gives has the shape that the sized type of its results says.
+#[tactic(auto, using(crate::proofs::Given::programs_give_their_shapes))]
+pub fn programs_give_their_shapes()
+    ensures { ProgramsGiveTheirShapes }
 {}
 
 /// At the place of a size in a sized type the shape of a value says what the size is worth there, and at that of a type variable

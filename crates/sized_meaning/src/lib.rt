@@ -5,10 +5,12 @@
 //! their results' shapes right. Two laws on them: where one sized type suits another, a value of the one is of the other; and
 //! each value that a sized term may give is of its sized type (`specs/Law.antt`), for terms of names and names of sizes,
 //! scalars, array literals, ranges, elements, slices and updates of arrays, records, tuples, their parts and changes of
-//! fields, coercions to constants, functions and what they declare, applications, lets, also of functions of one type,
-//! branches, loops and all primitives but `map2` to `map5`, where patterns may take the parts of tuples and records and name
-//! sizes. Of other terms nothing is claimed there: `map2` to `map5`, ranges and slices whose size a name or a constant is,
-//! coercions to sizes that are names, general names of several types, and a name of a size as the argument of a function.
+//! fields, coercions, functions and what they declare, applications, lets, also of functions of one type, branches, loops and all
+//! primitives, `map2` to `map5` where their results hold no arrays, where patterns may take the parts of tuples and records and
+//! name sizes. Of other terms nothing is claimed there: general names of several types, a name of a size as the argument of a
+//! function or as the end of a range or slice, and `map2` to `map5` whose results hold arrays. `specs/Programs.antt` says the same
+//! of programs: what an entry gives for arguments of its sized type is of the sized type of its results, with the sizes of these
+//! arguments, and where these are data it has that shape.
 //!
 //! The other laws are on what the meaning finds of sizes that no value shows. `specs/Finding.antt`: at their places in a sized
 //! type. `specs/Entered.antt`: under names, where what was entered is right; so an array literal without elements has
@@ -19,5 +21,6 @@ mod laws;
 
 pub use laws::{
     coerced_has_its_sizes, found_is_right, found_under_names_is_right, literal_rows_are_right,
-    standing_is_found, suiting_values_fit, told_is_right, values_have_their_sizes, values_read,
+    programs_give_their_shapes, programs_have_their_sizes, standing_is_found, suiting_values_fit,
+    told_is_right, values_have_their_sizes, values_read,
 };

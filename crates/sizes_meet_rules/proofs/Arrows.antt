@@ -405,6 +405,32 @@ module _ (N : Names) (types : Sub) (home : ℕ → ℕ) (K : Kinds) (places : Ki
                   ∙ ap (λ z. or_position (value_position (length chosen) q (value_name p) z) (position_from (suc (length chosen)) met x)) e ∙ ap (λ c. or_position c (position_from (suc (length chosen)) met x)) (no_value (value_name p) n i) ∙ k.1,
             )
 
+    -- what has the place of the argument's value is that
+    pub value_is : (x : Free) → May_stand met x → frame met x ≡ Some (length chosen) → Is_value (value_name p) x
+    value_is x o e = by_form o
+      where
+        here : value_of (value_name p) q ≡ x
+        here = sym at_value ∙ frame_back x o (length chosen) e
+
+        other : (r : Option ℕ) → value_of r q ≡ x → (Unknown q 0 ≡ x → ⊥) → Is_value r x
+        other (Some b) z never = sym z
+        other None z never = never z
+
+        known : Or_const x → Unknown q 0 ≡ x → ⊥
+        known (inl i) z = E.outside (Unknown q 0) (subst In (sym z) i) (omega arith, omega (arith, l2, l3))
+        known (inr c) z = subst Is_const (sym z) c
+
+        by_own : Own_or_known x → Unknown q 0 ≡ x → ⊥
+        by_own (inl s) z = let w : false ≡ true = ap (is_own [] q) z ∙ s in cc
+        by_own (inr w) z = known w z
+
+        by_form : May_stand met x → Is_value (value_name p) x
+        by_form (inl i) = other (value_name p) here (known (inl i))
+        by_form (inr (inl s)) = other (value_name p) here (by_own (standing_own x s))
+        by_form (inr (inr (inl v))) = v
+        by_form (inr (inr (inr (inl c)))) = other (value_name p) here (known (inr c))
+        by_form (inr (inr (inr (inr s)))) = absurd (let w = frame_met x s in let z : suc (length chosen) + w.0 ≡ length chosen = some_same (sym w.1 ∙ e) in omega (arith, z))
+
     placed_value : (r : Option ℕ) → or_position (position_from 0 chosen (value_of r q)) (value_place r q (length chosen) (value_of r q)) ≡ Some (length chosen)
     placed_value (Some y) = ap (λ r. or_position r (value_place (Some y) q (length chosen) (Name y))) (not_chosen (Name y) refl) ∙ ap (λ b. cond b (Some (length chosen)) None) (eq-eqb y y refl)
     placed_value None = ap (λ r. or_position r (value_place None q (length chosen) (Unknown q 0))) (not_chosen (Unknown q 0) refl) ∙ ap (λ b. cond b (Some (length chosen)) None) (eq-eqb q q refl)

@@ -1,5 +1,5 @@
 -- What is known behind a pattern that took a value, and lets: what names stand for leaves with them.
-use Rattle.std.proofs.Common.{◌≡◌, ◌⊎◌, ℕ, suc, ◌+◌, ◌<◌, ◌≤◌, List, [], ◌∷◌, ◌++◌, Bool, true, false, cond, nat_eq, Ok, Err, refl, sym, ap, ◌∙◌, subst, arith, inl, inr}
+use Rattle.std.proofs.Common.{◌≡◌, ◌⊎◌, ℕ, suc, ◌+◌, ◌<◌, ◌≤◌, List, [], ◌∷◌, ◌++◌, Bool, true, false, cond, nat_eq, Some, Ok, Err, refl, sym, ap, ◌∙◌, subst, arith, inl, inr}
 use Rattle.fut_scalar.specs.declared.place.BindId.{BindId}
 use Rattle.fut_flat.specs.Numbers.{pattern_numbers, numbers}
 use Rattle.fut_flat.specs.Terms.{Parameter, Let}
@@ -11,7 +11,7 @@ use Rattle.sized_types.specs.Sizes.{Free, Const, Name, Own, Unknown, Slot, Dim, 
 use Rattle.sized_types.specs.Standing.{stands}
 use Rattle.fut_sizes.specs.Agreeing.{Answer, left, leave, names_one, leaving, Escapes, is_among}
 use Rattle.fut_sizes.specs.Functions.{is_slot}
-use Rattle.fut_sizes.specs.Rules.{Away, taken_by, Pattern_takes, Let_sized, Sized}
+use Rattle.fut_sizes.specs.Rules.{Away, taken_by, Pattern_takes, Let_sized, Generalised, with_general, Sized}
 use Rattle.fut_sizes.specs.Scopes.{Scope, names}
 use Rattle.fut_sizes.specs.Scoping.{Context, with_pattern}
 use Rattle.fut_sizes.specs.Steps.{State}
@@ -21,7 +21,9 @@ use Rattle.sizes_meet_rules.specs.Plain.{Plain_pattern}
 use Rattle.sizes_meet_rules.proofs.Forming.{renaming_keeps, formed_replaced}
 use Rattle.sizes_meet_rules.proofs.Meeting.{each_scoped, same_ok, refused_ok, Met_in, With_met, met_wider, met_no_slot, met_outside, In_nodes, elsewhere_narrower, away_of, Inner, Meets}
 use Rattle.sizes_meet_rules.proofs.Naming.{Named_by, Stands_there, each_stands, named_among, Name_there, named_there, named_no_slot, judged_with}
-use Rattle.sizes_meet_rules.proofs.Replacing.{each_both, each_as, each_replaced, erased_replaced, hole_replaced}
+use Rattle.sizes_meet_rules.proofs.Settling.{Any_variable}
+use Rattle.fut_sizes.specs.Rules.{Each_hole}
+use Rattle.sizes_meet_rules.proofs.Replacing.{hole_as, each_both, each_as, each_replaced, erased_replaced, hole_replaced}
 use Rattle.sizes_meet_rules.proofs.Taking.{pattern_some, Has_parts, bound_scope, Nodes, first_node, nodes_as, names_home, among_joined, among_first, Noted_pattern, takes_it}
 
 -- ---- leaving a scope
@@ -117,10 +119,14 @@ module _ (N : Names) (types : Sub) (home : ℕ → ℕ) (K : Kinds) (places : Ki
       behind_elsewhere = record { no_slot = behind_no_slot; outside = λ d i o. behind_outside at hi (omega (arith, l0, l)) (omega arith) (inl (omega arith)) d i o }
 
       -- what the rules know behind the value
-      pub behind_judged : (s : ℕ → Size) (G : Context) → Has_parts N p t → Judged In Vars scope G → Nodes N p q t s → Judged Behind Vars (bound_scope N p t scope) (with_pattern s p q G)
-      behind_judged s G parts J nodes = judged_with N types K places Behind Vars home s In Vars p q plain t parts nodes scope G
-          (λ b i h. E.outside (Name b) i (let x = h.0 in let y = h.1 in (omega (arith, x, l0), omega (arith, y, l, l3)))) split (λ v i. inl i) (λ b u n k. J.sizes b u k) J.finds J.finds_types
+      pub behind_judged : (s : ℕ → Size) (G : Context) → Has_parts N p t → Each_hole Any_variable t → Judged In Vars scope G → Nodes N p q t s → Judged Behind Vars (bound_scope N p t scope) (with_pattern s p q G)
+      behind_judged s G parts closed J nodes = judged_with N types K places Behind Vars home s In Vars p q plain t parts nodes scope G
+          (λ b i h. E.outside (Name b) i (let x = h.0 in let y = h.1 in (omega (arith, x, l0), omega (arith, y, l, l3)))) split (λ v i. inl i) known J.none_open closed J.finds J.finds_types
         where
+          known : (b : ℕ) (g : Bool) (u : Size) → is_among (names p) b ≡ false → scope b ≡ Some (record { size = u; is_general = g }) → cond g (G.schemes b) (G.sizes b) ≡ Some u
+          known b true u n z = J.schemes b u z
+          known b false u n z = J.sizes b u z
+
           met_there : (d : Free) → Met_in from at d → (stands t d ≡ true) ⊎ Is_const d → Stands_there home q (q + pattern_numbers p) t d ⊎ (Named_by N p t d ⊎ Is_const d)
           met_there (Const c) m h = inr (inr tt)
           met_there (Name c) m h = absurd m
@@ -185,11 +191,19 @@ module _ (N : Names) (types : Sub) (home : ℕ → ℕ) (K : Kinds) (places : Ki
         by_side (inl f) = let w = names_home types home K places p (1 + lo) plain c f in let x = w.0 in let y = w.1 in (omega (arith, x), omega (arith, y, m1))
         by_side (inr f) = absurd (let z : false ≡ true = f in cc)
 
-    pub let_meets : (v e : FlatTerm) (parameters : List (Parameter BindId)) (is_function : Bool) (st s1 s2 s3 : State) (u r : Size) → mid + numbers v ≡ at → at + numbers e ≡ hi → types lo ≡ types at
+    -- what is bound behind the value, in a scope and a context
+    abbrev pub Bound_here : FlatTerm → FlatTerm → List (Parameter BindId) → Bool → ℕ → ℕ → ℕ → (ℕ → Size) → Context → Type 0
+    Bound_here v e parameters is_function mid at hi s G =
+        (Let_sized N types s home (record { sizes = []; parameters = parameters; is_function = is_function; pattern = p }) lo mid at hi × Sized N types s home e at (with_pattern s p (1 + lo) G))
+        ⊎ ((A : Generalised N types s home p v lo mid at hi G) × Sized N types s home e at (with_general N types s home p (1 + lo) A.new G))
+
+    pub any_let_meets : (v e : FlatTerm) (parameters : List (Parameter BindId)) (is_function : Bool) (st s1 s2 s3 : State) (u r : Size) → mid + numbers v ≡ at → at + numbers e ≡ hi → types lo ≡ types at
         → Noted_pattern types home K places N p (1 + lo) t s1 s2 → Leaves lo (names p ++ []) u r
-        → Meets N types home In Vars scope v mid at st t s1 → Meets N types home Inside_let Vars (bound_scope N p t scope) e at hi s2 u s3
+        → (inner : Scope) → Meets N types home In Vars scope v mid at st t s1 → Meets N types home Inside_let Vars inner e at hi s2 u s3
+        → ((s : ℕ → Size) (G : Context) → Judged In Vars scope G → Nodes N p (1 + lo) t s → s mid ≡ t → Let_sized N types s home (record { sizes = []; parameters = parameters; is_function = is_function; pattern = p }) lo mid at hi
+        → ((G1 : Context) → Judged Inside_let Vars inner G1 → Sized N types s home e at G1) → Bound_here v e parameters is_function mid at hi s G)
         → Inner N types home In Vars scope (Let (record { sizes = []; parameters = parameters; is_function = is_function; pattern = p }) v e) lo hi st r s3
-    let_meets v e parameters is_function st s1 s2 s3 u r m2 m3 t1 P L X Y = record {
+    any_let_meets v e parameters is_function st s1 s2 s3 u r m2 m3 t1 P L inner X Y alternative = record {
       says = left_says u r L Y.says;
       typed = ap erased L.result ∙ erased_replaced (renaming (leave lo (names p ++ []))) u 0 ∙ Y.typed ∙ sym t1;
       kept = λ n o. Y.kept n (by_body n o) ∙ P.kept n (by_pattern n o) ∙ X.kept n (by_value n o);
@@ -238,14 +252,21 @@ module _ (N : Names) (types : Sub) (home : ℕ → ℕ) (K : Kinds) (places : Ki
               no_parameter = subst (λ w. takes (names_one (names p ++ [])) w ≡ false) (sym at_body) L.no_parameter;
               result = z ∙ L.result ∙ ap (renamed (leave lo (names p ++ []))) (sym at_body);
             } in
-            let of_body : Sized N types s home e at (with_pattern s p (1 + lo) G) = Y.rules s (with_pattern s p (1 + lo) G) (behind_judged In Vars scope p t lo (1 + lo) mid at hi plain (omega arith) (omega (arith, m1, l2)) (omega (arith, l3)) E s G parts J nodes) body in
-            let of_value : Sized N types s home v mid G = X.rules s G J value in
-            let now_at : mid + numbers v ≡ 1 + lo + pattern_numbers p + numbers v = ap (λ n. n + numbers v) (sym m1) in (
+            let of_body : (G1 : Context) → Judged Inside_let Vars inner G1 → Sized N types s home e at G1 = λ G1 J1. Y.rules s G1 J1 body in
+            let of_value : Sized N types s home v mid G = X.rules s G J value in (
               subst (λ n. Sized N types s home v n G) (sym m1) of_value,
-              inl (
-                subst (λ n. Let_sized N types s home (record { sizes = []; parameters = parameters; is_function = is_function; pattern = p }) lo n (n + numbers v) (n + numbers v + numbers e)) (sym m1)
-                    (subst (λ n. Let_sized N types s home (record { sizes = []; parameters = parameters; is_function = is_function; pattern = p }) lo mid n (n + numbers e)) (sym m2)
-                    (subst (λ n. Let_sized N types s home (record { sizes = []; parameters = parameters; is_function = is_function; pattern = p }) lo mid at n) (sym m3) sized_let)),
-                subst (λ n. Sized N types s home e n (with_pattern s p (1 + lo) G)) (sym m2 ∙ now_at) of_body,
-              ),
+              subst (λ n. Bound_here v e parameters is_function n (n + numbers v) (n + numbers v + numbers e) s G) (sym m1)
+                  (subst (λ n. Bound_here v e parameters is_function mid n (n + numbers e) s G) (sym m2)
+                  (subst (λ n. Bound_here v e parameters is_function mid at n s G) (sym m3) (alternative s G J nodes at_value sized_let of_body))),
             )
+
+    pub let_meets : (v e : FlatTerm) (parameters : List (Parameter BindId)) (is_function : Bool) (st s1 s2 s3 : State) (u r : Size) → mid + numbers v ≡ at → at + numbers e ≡ hi → types lo ≡ types at
+        → Noted_pattern types home K places N p (1 + lo) t s1 s2 → Leaves lo (names p ++ []) u r
+        → Meets N types home In Vars scope v mid at st t s1 → Meets N types home Inside_let Vars (bound_scope N p t scope) e at hi s2 u s3
+        → Inner N types home In Vars scope (Let (record { sizes = []; parameters = parameters; is_function = is_function; pattern = p }) v e) lo hi st r s3
+    let_meets v e parameters is_function st s1 s2 s3 u r m2 m3 t1 P L X Y = any_let_meets v e parameters is_function st s1 s2 s3 u r m2 m3 t1 P L (bound_scope N p t scope) X Y
+        (λ s G J nodes at_value sized_let of_body. inl (
+          sized_let,
+          of_body (with_pattern s p (1 + lo) G)
+              (behind_judged In Vars scope p t lo (1 + lo) mid at hi plain (omega arith) (omega (arith, m1, l2)) (omega (arith, l3)) E s G parts (hole_as Vars Any_variable (λ v i. tt) t X.says.variables) J nodes),
+        ))

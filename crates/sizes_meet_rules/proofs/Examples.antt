@@ -1,11 +1,12 @@
--- A program whose sizing meets the rules by the law: `\n -> 0..<n`, which gives an array of the size of its argument.
-use Rattle.std.proofs.Common.{◌≡◌, arith, zero, suc, ℕ, false, [], None, Ok, refl}
+-- A term and a program whose sizings meet the rules by the laws. The term is `\n -> 0..<n`, which gives an array of the size of its argument.
+use Rattle.std.proofs.Common.{◌≡◌, inl, arith, zero, suc, ℕ, false, cond, nat_eq, List, [], ◌∷◌, None, Ok, refl}
+use Rattle.fut_scalar.specs.declared.place.BindId.{BindId}
 use Rattle.fut_ast.specs.declared.node.End.TheVariants as end
 use Rattle.fut_scalar.specs.declared.place.Place.{Place}
 use Rattle.fut_scalar.specs.declared.scalar.ScalarType.TheVariants as scalar
 use Rattle.fut_scalar.specs.declared.scalar.IntType.TheVariants as int
 use Rattle.fut_flat.specs.declared.prim.Ref.TheVariants as ref
-use Rattle.fut_flat.specs.Terms.{Bound_pattern, no_pattern, pattern_and, Integer, Range, Use, Strict, Lambda, no_term, term_and}
+use Rattle.fut_flat.specs.Terms.{Bound_pattern, no_pattern, pattern_and, Integer, Range, Use, Strict, Lambda, Apply, no_term, term_and}
 use Rattle.fut_flat.specs.Erased.{FlatTerm}
 use Rattle.fut_types.specs.declared.Kind.TheVariants as kind
 use Rattle.fut_types.specs.Types.{Sub, fun_ty}
@@ -26,13 +27,15 @@ use Rattle.fut_sizes.specs.WrittenSizes.{part_of, changed_part, has_sizes, all_h
 use Rattle.fut_types.specs.Types.{Kinds, rank, least}
 use native.Mathlib.Decide.{ℕ_discrete}
 use Rattle.fut_typing.specs.Scopes.{Uses, the_one, nothing as no_types}
+use Rattle.fut_typing.specs.Program.{Defined, Program_typed}
 use Rattle.fut_typing.specs.Typing.{Typed}
+use Rattle.fut_sizes.specs.ProgramRules.{Program_sized}
 use Rattle.fut_sizes.specs.Applications.{Part}
 use Rattle.fut_sizes.specs.Rules.{Sized}
+use Rattle.fut_sizes.specs.Scoping.{nothing_known}
 use Rattle.fut_sizes.specs.Steps.{Done}
-use Rattle.sizes_meet_rules.specs.Claims.{nothing_known}
-use Rattle.sizes_meet_rules.specs.Plain.{Plain_term, Formed_type, Formed_types}
-use Rattle.sizes_meet_rules.proofs.Law.{sizing_meets_rules}
+use Rattle.sizes_meet_rules.specs.Plain.{Plain_term, Plain_definitions, Formed_type, Formed_types}
+use Rattle.sizes_meet_rules.proofs.Law.{sizing_meets_rules, program_sizing_meets_rules}
 use Rattle.sizes_meet_rules.proofs.Meeting.{then_ok}
 
 here : Place
@@ -59,7 +62,7 @@ K v = kind.Data
 
 plain : Plain_term types home K kind.Data N counts 0
 unfolding Formed_type Formed_types rank least
-plain = ((refl, tt, omega arith, tt), (tt, (((scalar.Int int.I64, refl), tt), (tt, tt))))
+plain = ((refl, tt, omega arith, tt), (tt, (((scalar.Int int.I64, refl), tt), (refl, tt))))
 
 use_typed : (elim (ℕ_discrete 9 9) as (λ d. Uses) [ yes e ↦ the_one 1 | no ne ↦ no_types.uses 9 ]) K types i64_ty
 use_typed = elim (ℕ_discrete 9 9) as (λ d. (elim d as (λ d. Uses) [ yes e ↦ the_one 1 | no ne ↦ no_types.uses 9 ]) K types i64_ty) [ yes e ↦ refl | no ne ↦ absurd (ne refl) ]
@@ -82,3 +85,50 @@ its_size = refl
 -- and the whole sizing meets the rules
 its_rules : (u : Done Size) → counts_size ≡ Ok u → Sized N types u.state.nodes home counts 0 nothing_known
 its_rules u e = let x = then_ok counts_part e in (sizing_meets_rules N types home K kind.Data counts 0 no_state x.first u (omega arith) plain typed x.done x.rest).0
+
+-- ---- a program: `def f = \x y -> 0..<x` and `def main = \a -> f a a`
+
+abbrev b : ℕ → BindId
+b n = record { 0 = n }
+
+abbrev named : ℕ → FlatTerm
+named n = Use (ref.Bound (b n)) here 0
+
+abbrev ranges : FlatTerm
+ranges = Lambda (pattern_and (Bound_pattern (b 1)) (pattern_and (Bound_pattern (b 2)) no_pattern)) (Strict (Range false end.Below) here (term_and (Strict (Integer 0 None) here no_term) (term_and (named 1) no_term)))
+
+abbrev twice : FlatTerm
+twice = Lambda (pattern_and (Bound_pattern (b 4)) no_pattern) (Apply (Apply (named 0) (named 4)) (named 4))
+
+abbrev f : Defined
+f = record { name = Bound_pattern (b 0); parameters = []; value = ranges }
+
+abbrev main : Defined
+main = record { name = Bound_pattern (b 3); parameters = []; value = twice }
+
+abbrev program : List Defined
+program = f ∷ main ∷ []
+
+-- 0 to 6 are those of f, 7 to 14 those of main
+abbrev node_types : Sub
+node_types n = cond (nat_eq n 0) (fun_ty i64_ty (fun_ty i64_ty (array_ty i64_ty))) (cond (nat_eq n 1) (fun_ty i64_ty (fun_ty i64_ty (array_ty i64_ty))) (cond (nat_eq n 12) (fun_ty i64_ty (fun_ty i64_ty (array_ty i64_ty)))
+    (cond (nat_eq n 7) (fun_ty i64_ty (array_ty i64_ty)) (cond (nat_eq n 8) (fun_ty i64_ty (array_ty i64_ty)) (cond (nat_eq n 11) (fun_ty i64_ty (array_ty i64_ty)) (cond (nat_eq n 4) (array_ty i64_ty) (cond (nat_eq n 10) (array_ty i64_ty) i64_ty)))))))
+
+abbrev homes : ℕ → ℕ
+homes n = cond (nat_eq n 0) 0 (cond (nat_eq n 1) 2 (cond (nat_eq n 2) 3 (cond (nat_eq n 3) 7 9)))
+
+program_plain : Plain_definitions node_types homes K kind.Data N program 0
+unfolding Formed_type Formed_types rank least
+program_plain = (
+  (refl, tt, (tt, (tt, tt)), ((refl, tt, omega arith, (refl, tt, omega arith, tt)), (tt, (((scalar.Int int.I64, refl), tt), (refl, tt))))),
+  ((refl, tt, (tt, tt), ((refl, tt, omega arith, tt), (omega arith, (inl refl, omega arith, (inl refl, omega arith, refl, refl), refl)))), tt),
+)
+
+-- a caller that gives a gets an array of a numbers
+its_main : then_do (sizing N node_types program) (λ s. Ok (s 7)) ≡ Ok (Fun 0 (scalar_size (scalar.Int int.I64)) (Level (Bound 0 0) (scalar_size (scalar.Int int.I64))))
+unfolding agree all_agree kept all_kept leaving type_levels all_type_levels of_type of_types all_settled parts_settled data_met functions_met all_matched applied collected all_collected sizes_in function_size chosen_in quantified closed filled all_filled read all_read opened_inside compared all_compared meet all_meet elements_agree slice_size indexed updated operation sized_type prim_size sizing type_of type_in instance instances used taken all_taken fields_taken bound_by erased all_erased is_free is_dim levels all_levels levels_within all_levels_within replaced all_replaced has some_has takes some_takes is_open some_open matched lacking all_lacking differing all_differing turns_from pattern_noted patterns_noted fields_noted sized all_sized turns_sized condition_sized right_sized inner_sized part_of changed_part has_sizes all_have_sizes fields_have_sizes with_sizes all_with_sizes fields_with_sizes ascribed coerced coercion parameter_size declared
+its_main = refl
+
+-- the sizing of the whole program meets the rules, of any typing of this kind
+program_rules : (nodes : ℕ → Size) → Program_typed N kind.Data program K node_types → sizing N node_types program ≡ Ok nodes → Program_sized N node_types nodes homes program
+program_rules nodes t e = (program_sizing_meets_rules N node_types homes K kind.Data program nodes (omega arith) program_plain t e).0

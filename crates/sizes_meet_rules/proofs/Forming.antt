@@ -1,13 +1,17 @@
 -- The form of sized types: what is kept under replacing, and where branches meet.
-use Rattle.std.proofs.Common.{◌≡◌, ℕ, suc, ◌+◌, ◌<◌, ◌≤◌, Bool, true, false, cond, nat_eq, Option, Some, None, refl, ap, ◌∙◌, arith}
+use Rattle.std.proofs.Common.{◌≡◌, ℕ, suc, ◌+◌, ◌<◌, ◌≤◌, Bool, true, false, cond, nat_eq, Option, Some, None, refl, sym, ap, ◌∙◌, arith}
 use Rattle.std.specs.Prelude.{min}
+use Rattle.fut_scalar.specs.declared.scalar.ScalarType.TheVariants as sort
+use Rattle.fut_types.specs.declared.Head.{Head}
 use Rattle.fut_types.specs.declared.Head.TheVariants as head
-use Rattle.fut_types.specs.Types.{Made, none, more, Kinds, rank, least, cap}
-use Rattle.sized_types.specs.Sizes.{Free, Unknown, Dim, At, Bound, Variable, Size, Hole, Open, Level, Built, Fun, Sizes, no_size, size_and, erased, all_erased, is_dim, replaced, all_replaced, renaming, given, placed, binding, levels}
+use Rattle.fut_types.specs.Types.{Made, Tys, none, more, Kinds, rank, least, cap}
+use Rattle.sized_types.specs.Sizes.{Free, Unknown, Dim, At, Bound, Variable, Inferred, Written, Size, Hole, Open, Level, Built, Fun, Sizes, no_size, size_and, erased, all_erased, is_dim, replaced, all_replaced, renaming, given, placed, binding, levels}
 use Rattle.fut_sizes.specs.Agreeing.{kept, all_kept}
 use Rattle.fut_sizes.specs.Rules.{Each_hole, Each_holes}
+use Rattle.fut_sizes.specs.Scoping.{is_number}
 use Rattle.fut_sizes.specs.Suiting.{Each, Each_all, Scoped, Of_positions, Data, All_data}
 use Rattle.sizes_meet_rules.specs.Known.{Formed, All_formed}
+use Rattle.sizes_meet_rules.specs.Plain.{number_ty}
 
 -- sizes by themselves are renamed, or bound in a frame further out
 pub renaming_keeps : (ρ : Free → Free) (Q : ℕ → Type 0) (m j : ℕ) (d : Dim) → m ≤ j → Of_positions Q m d → Of_positions Q m (renaming ρ j d)
@@ -29,6 +33,44 @@ given_keeps δ Q m j (Bound k i) l h = one (nat_eq (suc k) j)
     one : (b : Bool) → Of_positions Q m (cond b (At (δ i)) (Bound k i))
     one true = tt
     one false = h
+
+-- a number is one whatever its parts
+number_parts : (h : Head) (ts us : Sizes) → is_number (Built h ts) ≡ is_number (Built h us)
+number_parts (head.Scalar (sort.Int t)) ts us = refl
+number_parts (head.Scalar sort.Bool) ts us = refl
+number_parts head.Array ts us = refl
+number_parts head.Tuple ts us = refl
+number_parts (head.Record n) ts us = refl
+number_parts head.Fun ts us = refl
+number_parts (head.Rigid n k) ts us = refl
+number_parts (head.Abstract n d) ts us = refl
+
+number_built : (h : Head) (ts : Sizes) (us : Tys) → is_number (Built h ts) ≡ number_ty (Made h us)
+number_built (head.Scalar (sort.Int t)) ts us = refl
+number_built (head.Scalar sort.Bool) ts us = refl
+number_built head.Array ts us = refl
+number_built head.Tuple ts us = refl
+number_built (head.Record n) ts us = refl
+number_built head.Fun ts us = refl
+number_built (head.Rigid n k) ts us = refl
+number_built (head.Abstract n d) ts us = refl
+
+pub number_typed : (t : Size) → Formed t → is_number t ≡ number_ty (erased t)
+unfolding Formed erased
+number_typed (Hole (Inferred v)) f = refl
+number_typed (Hole (Written b k)) f = refl
+number_typed (Open n v u) f = absurd f
+number_typed (Level d t) f = refl
+number_typed (Built h ts) f = number_built h ts (all_erased ts)
+number_typed (Fun k p r) f = refl
+
+pub number_replaced : (g : ℕ → Dim → Dim) (t : Size) (j : ℕ) → is_number (replaced g j t) ≡ is_number t
+unfolding replaced
+number_replaced g (Hole v) j = refl
+number_replaced g (Open n v u) j = refl
+number_replaced g (Level d t) j = refl
+number_replaced g (Built h ts) j = number_parts h (all_replaced g j ts) ts
+number_replaced g (Fun k p r) j = refl
 
 module _ (g : ℕ → Dim → Dim) (keeps : (Q : ℕ → Type 0) (m j : ℕ) (d : Dim) → m ≤ j → Of_positions Q m d → Of_positions Q m (g j d)) where
   mutual
@@ -53,7 +95,7 @@ module _ (g : ℕ → Dim → Dim) (keeps : (Q : ℕ → Type 0) (m j : ℕ) (d 
     formed_replaced (Open n v u) j h = h
     formed_replaced (Level d t) j h = formed_replaced t j h
     formed_replaced (Built k ts) j h = (h.0, all_formed_replaced ts j h.1)
-    formed_replaced (Fun k p r) j h = (formed_replaced p (suc j) h.0, formed_replaced r (suc j) h.1, low_replaced (λ i. i < k) p 1 (suc j) (omega arith) h.2)
+    formed_replaced (Fun k p r) j h = (formed_replaced p (suc j) h.0, formed_replaced r (suc j) h.1, low_replaced (λ i. i < k) p 1 (suc j) (omega arith) h.2, λ e. low_replaced (λ i. i ≡ k → ⊥) r 1 (suc j) (omega arith) (h.3 (sym (number_replaced g p (suc j)) ∙ e)))
 
     all_formed_replaced : (ts : Sizes) (j : ℕ) → All_formed ts → All_formed (all_replaced g j ts)
     all_formed_replaced no_size j h = tt

@@ -10,17 +10,18 @@ use Rattle.fut_typing.specs.Names.{Names}
 use Rattle.sized_types.specs.Sizes.{Free, Const, Name, Own, Unknown, Slot, Dim, At, Bound, Variable, Size, Hole, Open, Level, Built, Fun, Sizes, no_size, size_and, placed, binding, bound, renaming, renamed, replaced, all_replaced}
 use Rattle.sized_types.specs.Standing.{stands}
 use Rattle.fut_sizes.specs.Functions.{stands_among, sizes_in, position_from, or_position, value_name, is_own, is_met}
-use Rattle.fut_sizes.specs.Rules.{Each_hole, Tells_size, Tells_type, Telling}
-use Rattle.fut_sizes.specs.Scopes.{Scope, names}
+use Rattle.fut_sizes.specs.Rules.{Each_hole, Each_holes, Tells_size, Tells_type, Telling}
+use Rattle.fut_sizes.specs.Scopes.{i64_size, Scope, names}
 use Rattle.fut_sizes.specs.Sizing.{part_names}
-use Rattle.fut_sizes.specs.Scoping.{Context, with_positions, with_pattern, if_some}
+use Rattle.fut_sizes.specs.Scoping.{is_number, Context, with_positions, with_pattern, if_some}
 use Rattle.fut_sizes.specs.Suiting.{Each, Each_all, Scoped, Of_positions}
-use Rattle.sizes_meet_rules.specs.Known.{Is_const, Judged, Elsewhere}
+use Rattle.sizes_meet_rules.specs.Known.{None_open, Is_const, Judged, Elsewhere}
+use Rattle.sizes_meet_rules.proofs.Settling.{Any_variable}
 use Rattle.sizes_meet_rules.specs.Plain.{Plain_pattern}
 use Rattle.sizes_meet_rules.proofs.Arrows.{Is_value, value_place, chosen, frame, position, May_stand, standing_own, frame_value, frame_met}
 use Rattle.sizes_meet_rules.proofs.Listing.{Some_at, found_at, among_found, all_nth, sizes_are, sizes_listed}
 use Rattle.sizes_meet_rules.proofs.Meeting.{Met_in, With_met, met_wider}
-use Rattle.sizes_meet_rules.proofs.Naming.{Named_by, Stands_there, named_there, named_among, judged_with}
+use Rattle.sizes_meet_rules.proofs.Naming.{value_home, Named_by, Stands_there, named_there, named_among, judged_with}
 use Rattle.sizes_meet_rules.proofs.Taking.{Has_parts, bound_scope, Nodes}
 use Rattle.fut_flat.specs.Numbers.{pattern_numbers}
 use Rattle.fut_sizes.specs.Agreeing.{is_among}
@@ -83,6 +84,10 @@ met_unknown lo hi In unmet t x e = by_place (found_at (sizes_in (is_met lo hi) t
 pub none_met : (In : Free → Type 0) (x : Free) → stands_among [] x ≡ true → Unknown_met In x
 none_met In x e = absurd (let z : false ≡ true = e in cc)
 
+number_closed : (u : Size) → ◌≡◌ {A = Option Size} (Some i64_size) (Some u) → Each_hole Any_variable u
+unfolding Each_hole Each_holes
+number_closed u z = subst (Each_hole Any_variable) (let v : i64_size ≡ u = cc in v) tt
+
 module _ (N : Names) (types : Sub) (home : ℕ → ℕ) (K : Kinds) (places : Kind) (lo at hi q : ℕ) (p : FlatPattern) (plain : Plain_pattern types home K places p q) (In : Free → Type 0) (Vars : Variable → Type 0) (E : Elsewhere N types home q hi In) (l0 : lo < q) (l2 : q < at) (l2' : q + pattern_numbers p ≤ at) (l3 : at ≤ hi) (parts : List ℕ) (among : (b : ℕ) → is_among (part_names p) b ≡ true → is_among parts b ≡ true)
     (own : Size) (own_is : Each (Scoped (λ x. (is_own [] q x ≡ true) ⊎ (In x ⊎ Is_const x))) 0 own) (own_stands : Each (Scoped (λ x. stands own x ≡ true)) 0 own) where
   -- what is known behind the parameter
@@ -115,6 +120,32 @@ module _ (N : Names) (types : Sub) (home : ℕ → ℕ) (K : Kinds) (places : Ki
       by_form : Value_or_part p x → May met x
       by_form (inl v) = inr (inr (inl v))
       by_form (inr (b, e, f)) = absurd (let z : true ≡ false = sym (among b f) ∙ bare b e in cc)
+
+  -- a parameter that is no number is no size of what follows
+  named_number : (r : FlatPattern) (x : Free) → Named_by N r own x → Is_value (value_name r) x → is_number own ≡ true
+  named_number (Bound_pattern y) x h v = h.1
+  named_number Wild_pattern x h v = absurd h
+  named_number (Tuple_pattern ps) x h v = absurd v
+  named_number (Record_pattern fs ps) x h v = absurd v
+  named_number (Typed_pattern r t) x h v = named_number r x h v
+
+  known_no_value : (x : Free) → (r : Option ℕ) → ((b : ℕ) → r ≡ Some b → home b ≡ q) → In x ⊎ Is_const x → Is_value r x → ⊥
+  known_no_value x (Some b) h (inl i) v = let y = h b refl in E.outside (Name b) (subst In v i) (omega (arith, y), omega (arith, y, l2, l3))
+  known_no_value x (Some b) h (inr c) v = subst Is_const v c
+  known_no_value x None h o v = v
+
+  own_no_value : (x : Free) (r : Option ℕ) → is_own [] q x ≡ true → Is_value r x → ⊥
+  own_no_value x (Some b) o v = let z : false ≡ true = ap (is_own [] q) (sym v) ∙ o in cc
+  own_no_value x None o v = v
+
+  pub no_value : (x : Free) → is_number own ≡ false → Entered_in x → Is_value (value_name p) x → ⊥
+  no_value x e (inl i) v = known_no_value x (value_name p) (value_home types home K places p q plain) (inl i) v
+  no_value x e (inr (inl s)) v = by_own (standing_own N types home K places lo at hi q p plain In E l2 l3 own own_is own_stands x s)
+    where
+      by_own : (is_own [] q x ≡ true) ⊎ (In x ⊎ Is_const x) → ⊥
+      by_own (inl o) = own_no_value x (value_name p) o v
+      by_own (inr w) = known_no_value x (value_name p) (value_home types home K places p q plain) w v
+  no_value x e (inr (inr n)) v = let z : true ≡ false = sym (named_number p x n v) ∙ e in cc
 
   is_met_here : (n i : ℕ) → lo ≤ n → n < hi → is_met lo hi (Unknown n i) ≡ true
   is_met_here n i a b = ap (λ c. c && nat_lt n hi) (le-leb lo n a) ∙ lt-ltb n hi b
@@ -180,9 +211,9 @@ module _ (N : Names) (types : Sub) (home : ℕ → ℕ) (K : Kinds) (places : Ki
       by_own (inr (inl i)) = let x = h.0 in let y = h.1 in E.outside (Name b) (subst In e i) (x, omega (arith, y, l2', l3))
       by_own (inr (inr c)) = subst Is_const e c
 
-  pub entered_judged : Has_parts N p own → (s : ℕ → Size) (scope : Scope) (G : Context) → Judged In Vars scope G → Nodes N p q own s → Judged Entered_in Vars (bound_scope N p own scope) (with_pattern s p q (with_positions (λ d. position N types home K places lo at hi q p plain In E l2 l3 own own_is own_stands d) G))
-  entered_judged fits s scope G J nodes = judged_with N types K places Entered_in Vars home s In Vars p q plain own fits nodes scope
-      (with_positions (λ d. position N types home K places lo at hi q p plain In E l2 l3 own own_is own_stands d) G) (λ b i h. let x = h.0 in let y = h.1 in E.outside (Name b) i (omega (arith, x), omega (arith, y, l2', l3))) split (λ v i. inl i) sizes J.finds J.finds_types
+  pub entered_judged : Has_parts N p own → Each_hole Any_variable own → (s : ℕ → Size) (scope : Scope) (G : Context) → Judged In Vars scope G → Nodes N p q own s → Judged Entered_in Vars (bound_scope N p own scope) (with_pattern s p q (with_positions (λ d. position N types home K places lo at hi q p plain In E l2 l3 own own_is own_stands d) G))
+  entered_judged fits closed s scope G J nodes = judged_with N types K places Entered_in Vars home s In Vars p q plain own fits nodes scope
+      (with_positions (λ d. position N types home K places lo at hi q p plain In E l2 l3 own own_is own_stands d) G) (λ b i h. let x = h.0 in let y = h.1 in E.outside (Name b) i (omega (arith, x), omega (arith, y, l2', l3))) split (λ v i. inl i) known none_open closed J.finds J.finds_types
     where
       split : (d : Free) → Entered_in d → In d ⊎ (Stands_there home q (q + pattern_numbers p) own d ⊎ (Named_by N p own d ⊎ Is_const d))
       split d (inl i) = inl i
@@ -191,6 +222,17 @@ module _ (N : Names) (types : Sub) (home : ℕ → ℕ) (K : Kinds) (places : Ki
 
       sizes : (b : ℕ) (u : Size) → is_among (names p) b ≡ false → scope b ≡ Some (record { size = u; is_general = false }) → if_some (position N types home K places lo at hi q p plain In E l2 l3 own own_is own_stands (Name b)) (G.sizes b) ≡ Some u
       sizes b u n z = ap (λ o. if_some o (G.sizes b)) (not_named b n) ∙ J.sizes b u z
+
+      known : (b : ℕ) (g : Bool) (u : Size) → is_among (names p) b ≡ false → scope b ≡ Some (record { size = u; is_general = g }) → cond g (G.schemes b) (if_some (position N types home K places lo at hi q p plain In E l2 l3 own own_is own_stands (Name b)) (G.sizes b)) ≡ Some u
+      known b true u n z = J.schemes b u z
+      known b false u n z = sizes b u n z
+
+      none_open : None_open (with_positions (λ d. position N types home K places lo at hi q p plain In E l2 l3 own own_is own_stands d) G)
+      none_open = (λ b u z. by_position (position N types home K places lo at hi q p plain In E l2 l3 own own_is own_stands (Name b)) b u z, J.none_open.1)
+        where
+          by_position : (o : Option ℕ) (b : ℕ) (u : Size) → if_some o (G.sizes b) ≡ Some u → Each_hole Any_variable u
+          by_position (Some i) b u z = number_closed u z
+          by_position None b u z = J.none_open.0 b u z
 
   -- ---- what a function of data tells
   module _ (met : List Free) (mets : (x : Free) → stands_among met x ≡ true → Unknown_met In x) (s : ℕ → Size) (scope : Scope) (G : Context) (J : Judged In Vars scope G) (here : s q ≡ own) where

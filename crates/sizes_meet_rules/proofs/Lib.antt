@@ -7,18 +7,25 @@ pub mod Operating
 pub mod Taking
 pub mod Reading
 pub mod Naming
+pub mod Using
 pub mod Showing
 pub mod Listing
 pub mod Owning
 pub mod Arrows
 pub mod Binding
+pub mod Generalising
 pub mod Entering
 pub mod Functions
 pub mod Parameters
 pub mod Turning
 pub mod Looping
+pub mod Frames
 pub mod Applying
+pub mod Chains
+pub mod Noting
+pub mod Spines
 pub mod Walking
+pub mod Defining
 pub mod Law
 mod Unmet
 mod Examples

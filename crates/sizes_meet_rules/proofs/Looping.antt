@@ -1,5 +1,5 @@
 -- Loops: what is counted or gone over is sized once, the body once a turn; the last turn's sizing meets the rules.
-use Rattle.std.proofs.Common.{◌≡◌, ◌⊎◌, ℕ, suc, ◌+◌, ◌<◌, ◌≤◌, List, [], ◌++◌, true, false, Ok, refl, sym, ap, ◌∙◌, subst, arith, inl, inr}
+use Rattle.std.proofs.Common.{◌≡◌, ◌⊎◌, ℕ, suc, ◌+◌, ◌<◌, ◌≤◌, List, [], ◌++◌, Bool, true, false, cond, Some, Ok, refl, sym, ap, ◌∙◌, subst, arith, inl, inr}
 use Rattle.fut_scalar.specs.declared.place.BindId.{BindId}
 use Rattle.fut_flat.specs.Numbers.{pattern_numbers, numbers, turn_numbers}
 use Rattle.fut_flat.specs.Terms.{Bound_pattern, Counted, Over, While}
@@ -32,8 +32,8 @@ use Rattle.sizes_meet_rules.proofs.Showing.{numbers_some, Law_of, alone, bound_r
 use Rattle.sizes_meet_rules.proofs.Meeting.{then_ok, asked, same_ok, at_itself, at_another, With_met, met_wider, met_settled, met_outside, says_more, says_settled, In_nodes, elsewhere_narrower, inside_wider, away_of, Meets}
 use Rattle.sizes_meet_rules.proofs.Naming.{Named_by, named_no_slot, Not_there, known_with, judged_names}
 use Rattle.sizes_meet_rules.proofs.Operating.{Level_of, level_of}
-use Rattle.sizes_meet_rules.proofs.Replacing.{not_renamed}
-use Rattle.sizes_meet_rules.proofs.Settling.{noted}
+use Rattle.sizes_meet_rules.proofs.Replacing.{hole_as, not_renamed}
+use Rattle.sizes_meet_rules.proofs.Settling.{Any_variable, noted}
 use Rattle.sizes_meet_rules.proofs.Taking.{pattern_some, head_same, parts_same, bound_scope, Nodes, nodes_as, names_home, Pattern_ran, taken_is, Noted_pattern, noted_is, takes_it, among_joined}
 use Rattle.sizes_meet_rules.proofs.Turning.{missing_most, erased_lacking, formed_lacking, data_lacking, variables_lacking, sizes_lacking, Turned, turned}
 
@@ -120,7 +120,7 @@ module _ (N : Names) (types : Sub) (home : ℕ → ℕ) (K : Kinds) (places : Ki
 
   -- ---- what is counted or gone over, and a turn behind its pattern, meet the rules
 
-  module _ (In In1 : Free → Type 0) (Vars : Variable → Type 0) (scope scope1 : Scope) (wider : (d : Free) → In d → In1 d) (T T1 : TypeScope) (known : Known_names In Vars scope K types T) (known1 : Known_names In1 Vars scope1 K types T1)
+  module _ (In In1 : Free → Type 0) (Vars : Variable → Type 0) (scope scope1 : Scope) (wider : (d : Free) → In d → In1 d) (T T1 : TypeScope) (known : Known_names In Vars home scope K types T) (known1 : Known_names In1 Vars home scope1 K types T1)
       (body : FlatTerm) (lb : Law_of N types home K places body) (from at hi : ℕ) (m4 : at + numbers body ≡ hi) (E : Elsewhere N types home from hi In) (E1 : Elsewhere N types home from hi In1) (before : State) where
     body_there : at < hi
     body_there = let n = numbers_some body in omega (arith, n, m4)
@@ -135,7 +135,7 @@ module _ (N : Names) (types : Sub) (home : ℕ → ℕ) (K : Kinds) (places : Ki
       pub rules : (s : ℕ → Size) (G G1 : Context) → Judged In Vars scope G → Judged In1 Vars scope1 G1 → ((n : ℕ) → from ≤ n → n < changing turns from at → st.nodes n ≡ each.nodes n) → ((n : ℕ) → from ≤ n → n < hi → s n ≡ u.state.nodes n)
           → Turns_sized N types s home turns from G G1 × Sized N types s home body at (counter N types s home turns from G1)
 
-    of_body : (In2 : Free → Type 0) (inner : Scope) (T2 : TypeScope) → Known_names In2 Vars inner K types T2 → Elsewhere N types home at hi In2 → Plain_term types home K places N body at → Typed N places body at T2 K types → (st : State) (part : Done Part) (u : Done Size) → sized N types body [] at inner st ≡ Ok part → finished N types at part.result part.state ≡ Ok u → Meets N types home In2 Vars inner body at hi st u.result u.state
+    of_body : (In2 : Free → Type 0) (inner : Scope) (T2 : TypeScope) → Known_names In2 Vars home inner K types T2 → Elsewhere N types home at hi In2 → Plain_term types home K places N body at → Typed N places body at T2 K types → (st : State) (part : Done Part) (u : Done Size) → sized N types body [] at inner st ≡ Ok part → finished N types at part.result part.state ≡ Ok u → Meets N types home In2 Vars inner body at hi st u.result u.state
     of_body In2 inner T2 k E2 pl ty st part u a b = subst (λ n. Meets N types home In2 Vars inner body at n st u.result u.state) m4 (alone N types home K places body lb In2 Vars inner T2 at st part u pl ty k (subst (λ n. Elsewhere N types home at n In2) (sym m4) E2) a b)
 
     -- while
@@ -235,7 +235,7 @@ module _ (N : Names) (types : Sub) (home : ℕ → ℕ) (K : Kinds) (places : Ki
         says : Says (Counted_in i ran.0.last.result) Vars ran.0.last.result
         says = subst (λ w. Says (Counted_in i ran.0.last.result) Vars w) (sym (scalar_is ran.0.last.result scalar.0 C.says.formed (C.typed ∙ sym t1 ∙ scalar.1))) (scalar_says (Counted_in i ran.0.last.result) Vars scalar.0)
 
-        known2 : Known_names (Counted_in i ran.0.last.result) Vars (bound_scope N (Bound_pattern i) ran.0.last.result scope1) K types (typed_with the_one (Bound_pattern i) from T1)
+        known2 : Known_names (Counted_in i ran.0.last.result) Vars home (bound_scope N (Bound_pattern i) ran.0.last.result scope1) K types (typed_with the_one (Bound_pattern i) from T1)
         known2 = known_with N types K places (Counted_in i ran.0.last.result) Vars home In1 Vars (λ d x. inl x) (λ v x. x) (Bound_pattern i) from T1 at_home tt ran.0.last.result tt scope1 T1 known1 says (C.typed ∙ sym t1) (λ d n. inr n)
 
         E2 : Elsewhere N types home at hi (Counted_in i ran.0.last.result)
@@ -253,8 +253,12 @@ module _ (N : Names) (types : Sub) (home : ℕ → ℕ) (K : Kinds) (places : Ki
         B = of_body (Counted_in i ran.0.last.result) (bound_scope N (Bound_pattern i) ran.0.last.result scope1) (typed_with the_one (Bound_pattern i) from T1) known2 E2 pb tb R.condition.state R.part u (ap (λ w. sized N types body [] at w R.condition.state) inner ∙ R.part_is) R.body_is
 
         judged2 : (s : ℕ → Size) (G1 : Context) → Judged In1 Vars scope1 G1 → s from ≡ ran.0.last.result → Judged (Counted_in i ran.0.last.result) Vars (bound_scope N (Bound_pattern i) ran.0.last.result scope1) (with_names s (Bound_pattern i) from G1)
-        judged2 s G1 J1 e = judged_names N types K places (Counted_in i ran.0.last.result) Vars home s (Bound_pattern i) from at_home ran.0.last.result tt e scope1 G1 (λ b u n z. J1.sizes b u z) split J1.finds_types
+        judged2 s G1 J1 e = judged_names N types K places (Counted_in i ran.0.last.result) Vars home s (Bound_pattern i) from at_home ran.0.last.result tt e scope1 G1 named_before J1.none_open (hole_as Vars Any_variable (λ v i. tt) ran.0.last.result C.says.variables) split J1.finds_types
           where
+            named_before : (b : ℕ) (g : Bool) (u : Size) → is_among (names (Bound_pattern i)) b ≡ false → scope1 b ≡ Some (record { size = u; is_general = g }) → cond g (G1.schemes b) (G1.sizes b) ≡ Some u
+            named_before b true u n z = J1.schemes b u z
+            named_before b false u n z = J1.sizes b u z
+
             by_finds : (d : Free) → In1 d → (G1.finds d ≡ true) ⊎ Is_const d → ((G1.finds d ≡ true) × Not_there N types K places (Counted_in i ran.0.last.result) Vars home s from (from + 1) d) ⊎ Is_const d
             by_finds d x (inl y) = inl (y, λ b z w. E1.outside (Name b) (subst In1 z x) (let v = w.0 in let r = w.1 in let k = body_there in (v, omega (arith, r, m3, k))))
             by_finds d x (inr y) = inr y
@@ -345,7 +349,7 @@ module _ (N : Names) (types : Sub) (home : ℕ → ℕ) (K : Kinds) (places : Ki
         by_array n (inr x) = inr x
 
         -- ---- the body
-        known2 : Known_names (Over_in p L.row) Vars (bound_scope N p L.row scope1) K types (typed_with the_one p from T1)
+        known2 : Known_names (Over_in p L.row) Vars home (bound_scope N p L.row scope1) K types (typed_with the_one p from T1)
         known2 = known_with N types K places (Over_in p L.row) Vars home In1 Vars (λ d x. inl x) (λ v x. x) p from T1 plain fits L.row taken_row.parts scope1 T1 known1 (value_behind N types home K places In1 Vars scope1 p L.row from from (from + pattern_numbers p) at hi row_known is_data) L.typed (λ d n. inr (inr n))
 
         E2 : Elsewhere N types home at hi (Over_in p L.row)
@@ -363,7 +367,7 @@ module _ (N : Names) (types : Sub) (home : ℕ → ℕ) (K : Kinds) (places : Ki
             let array_there : (n : ℕ) → (from + pattern_numbers p) ≤ n → n < at → s n ≡ ran.array.last.state.nodes n = λ n x y. first n (omega (arith, x)) y ∙ P.kept n (inr x) in
             let row_there : row_of N types (s (from + pattern_numbers p)) ≡ L.row = ap (row_of N types) (array_there (from + pattern_numbers p) (omega arith) j ∙ C.here) ∙ row_is in (
               (C.rules s G J array_there, subst (λ w. Pattern_takes N types s home (λ d. d) p from w) (sym row_there) (takes_it types home K places N s (λ d. d) (λ d. refl) p from plain L.row taken_row.parts nodes)),
-              B.rules s (with_pattern s p from G1) (behind_judged N types home K places In1 Vars scope1 p L.row from from (from + pattern_numbers p) at hi plain (omega arith) (omega (arith, j)) (omega (arith, k)) E1 s G1 taken_row.parts J1 nodes) (λ n x y. a n (omega (arith, x, j)) y),
+              B.rules s (with_pattern s p from G1) (behind_judged N types home K places In1 Vars scope1 p L.row from from (from + pattern_numbers p) at hi plain (omega arith) (omega (arith, j)) (omega (arith, k)) E1 s G1 taken_row.parts (hole_as Vars Any_variable (λ v i. tt) L.row L.says.variables) J1 nodes) (λ n x y. a n (omega (arith, x, j)) y),
             )
 
     pub turn_meets : (turns : FlatTurns) → from + turn_numbers turns ≡ at → Law_turns turns → Plain_turns types home K places N turns from → Turns_typed N places turns from T T1 K types → Plain_term types home K places N body at → Typed N places body at (with_turns turns from T1) K types
@@ -412,7 +416,7 @@ module _ (N : Names) (types : Sub) (home : ℕ → ℕ) (K : Kinds) (places : Ki
       pub dropped : (n : ℕ) → (n < lo) ⊎ (hi ≤ n) → after.dropped n ≡ st.dropped n
       pub rules : (s : ℕ → Size) (G : Context) → Judged In Vars scope G → s lo ≡ t → ((n : ℕ) → lo < n → n < hi → s n ≡ after.nodes n) → Loop_sized s G
 
-    module _ (lf : Law_of N types home K places first) (lt : Law_turns turns) (lb : Law_of N types home K places body) (In : Free → Type 0) (Vars : Variable → Type 0) (scope : Scope) (T : TypeScope) (known : Known_names In Vars scope K types T) (E : Elsewhere N types home lo hi In)
+    module _ (lf : Law_of N types home K places first) (lt : Law_turns turns) (lb : Law_of N types home K places body) (In : Free → Type 0) (Vars : Variable → Type 0) (scope : Scope) (T : TypeScope) (known : Known_names In Vars home scope K types T) (E : Elsewhere N types home lo hi In)
         (plain : Plain_pattern types home K places p (1 + lo)) (fits : Pattern_typed N places K types p (1 + lo) T)
         (pf : Plain_term types home K places N first mid) (tf : Typed N places first mid T K types)
         (pt : Plain_turns types home K places N turns from) (tt' : Turns_typed N places turns from T (typed_with the_one p (1 + lo) T) K types)
@@ -481,7 +485,7 @@ module _ (N : Names) (types : Sub) (home : ℕ → ℕ) (K : Kinds) (places : Ki
         P : Noted_pattern types home K places N p (1 + lo) (c ds) s Q.pattern.state
         P = noted_is types home K places N p (1 + lo) plain (c ds) pattern_taken.parts s Q.pattern Q.pattern_ok
 
-        known1 : Known_names (In1 ds) Vars (scope1 ds) K types (typed_with the_one p (1 + lo) T)
+        known1 : Known_names (In1 ds) Vars home (scope1 ds) K types (typed_with the_one p (1 + lo) T)
         known1 = known_with N types K places (In1 ds) Vars home In Vars (λ d x. inl x) (λ v x. x) p (1 + lo) T plain fits (c ds) pattern_taken.parts scope T known (value_behind N types home K places In Vars scope p (c ds) lo (1 + lo) lo from hi (carried_says ds) (carried_data ds)) (carried_typed ds) (λ d n. inr (inr n))
 
         abbrev u : Done Size
@@ -596,7 +600,7 @@ module _ (N : Names) (types : Sub) (home : ℕ → ℕ) (K : Kinds) (places : Ki
           let at_value : s mid ≡ t = value_there mid (omega arith) a2 ∙ F.here in
           let nodes : Nodes N p (1 + lo) (c W.ds) s = nodes_as N p (1 + lo) (c W.ds) last_turn.pattern.state.nodes s (λ n x y. f n (omega (arith, x)) (omega (arith, y, m1, a2, a3, a4)) ∙ end_nodes n ∙ last_meets.kept n (inl (omega (arith, y, m1, a2, a5)))) last_pattern.nodes in
           let parts = (pattern_taken W.ds W.before W.last W.ran).parts in
-          let J1 = behind_judged N types home K places In Vars scope p (c W.ds) lo (1 + lo) lo from hi plain (omega arith) (omega (arith, m1, a2)) (omega (arith, a3, a4)) E s G parts J nodes in
+          let J1 = behind_judged N types home K places In Vars scope p (c W.ds) lo (1 + lo) lo from hi plain (omega arith) (omega (arith, m1, a2)) (omega (arith, a3, a4)) E s G parts (hole_as Vars Any_variable (λ v i. tt) (c W.ds) (carried_says W.ds).variables) J nodes in
           let same : (n : ℕ) → from ≤ n → n < edge → last_turn.pattern.state.nodes n ≡ R.each.state.nodes n = λ n x y. last_pattern.kept n (inr (omega (arith, x, m1, a2))) ∙ W.inv.nodes n (inr (inl (omega (arith, x, a2), y))) in
           let inside = last_meets.rules s G (with_pattern s p (1 + lo) G) J J1 same (λ n x y. f n (omega (arith, x, a1, a2)) y ∙ end_nodes n) in
           let at_body : s at ≡ last_turn.rest.last.result = f at (omega (arith, a1, a2, a3)) a4 ∙ end_nodes at ∙ last_meets.here in

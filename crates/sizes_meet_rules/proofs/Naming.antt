@@ -1,5 +1,5 @@
 -- What is known of the names in scope where a pattern took a value.
-use Rattle.std.proofs.Common.{◌≡◌, ◌⊎◌, ℕ, ◌+◌, ◌<◌, ◌≤◌, List, [], ◌∷◌, ◌++◌, Bool, true, false, ◌||◌, cond, nat_eq, Option, Some, None, refl, sym, ap, ◌∙◌, subst, arith, inl, inr, eq-eqb}
+use Rattle.std.proofs.Common.{◌≡◌, ◌⊎◌, ℕ, zero, suc, ◌+◌, ◌<◌, ◌≤◌, List, [], ◌∷◌, ◌++◌, Bool, true, false, ◌||◌, cond, nat_eq, Option, Some, None, refl, sym, ap, ◌∙◌, subst, arith, inl, inr, eq-eqb}
 use Rattle.std.proofs.lemmas.Bool.{ne_eqb, eqb-false}
 use native.Mathlib.Decide.{ℕ_discrete}
 use Rattle.fut_scalar.specs.declared.place.BindId.{BindId}
@@ -8,7 +8,11 @@ use Rattle.fut_flat.specs.Numbers.{pattern_numbers, all_pattern_numbers}
 use Rattle.fut_flat.specs.Terms.{Bound_pattern, Wild_pattern, Tuple_pattern, Record_pattern, Typed_pattern, Patterns, no_pattern, pattern_and}
 use Rattle.fut_flat.specs.Erased.{FlatPattern}
 use Rattle.fut_types.specs.declared.Kind.{Kind}
-use Rattle.fut_types.specs.Types.{Ty, more, Sub, Kinds}
+use Rattle.fut_types.specs.declared.Head.TheVariants as head
+use Rattle.fut_scalar.specs.declared.scalar.ScalarType.TheVariants as scalar
+use Rattle.fut_scalar.specs.declared.scalar.IntType.TheVariants as int
+use Rattle.fut_typing.specs.Primitives.{i64_ty}
+use Rattle.fut_types.specs.Types.{Ty, Made, none, more, Sub, Kinds, fun_ty}
 use Rattle.fut_typing.specs.Names.{Names, Parts_named}
 use Rattle.fut_typing.specs.Scopes.{Uses, Scope as TypeScope, the_one}
 use Rattle.fut_typing.specs.Patterns.{pattern_types, Pattern_typed, Patterns_typed, with_pattern as typed_with, with_patterns as all_typed_with}
@@ -20,13 +24,15 @@ use Rattle.fut_sizes.specs.Rules.{Each_hole, Each_holes}
 use Rattle.fut_sizes.specs.Scopes.{Known, Scope, with_name, names, all_names}
 use Rattle.fut_sizes.specs.Scoping.{Context, is_number, with_entered, with_names, with_all_names, with_pattern}
 use Rattle.fut_sizes.specs.Suiting.{Each, Each_all, Scoped, Data, All_data}
-use Rattle.sizes_meet_rules.specs.Known.{Formed, All_formed, Says, Known_name, Known_names, Is_const, Judged}
+use Rattle.sizes_meet_rules.specs.Known.{Formed, All_formed, Says, Known_name, Known_names, None_open, Is_const, Judged}
 use Rattle.sizes_meet_rules.specs.Plain.{Plain_pattern, Plain_parts}
 use Rattle.sizes_meet_rules.proofs.Replacing.{same_free, hole_as}
 use Rattle.sizes_meet_rules.proofs.Meeting.{each_scoped}
+use Rattle.sizes_meet_rules.proofs.Settling.{Any_variable}
 use Rattle.sizes_meet_rules.proofs.Operating.{All_say, first_says, rest_say, part_of_says}
 use Rattle.fut_ast.specs.Sorts.{Text}
-use Rattle.fut_sizes.specs.WrittenSizes.{part_of}
+use Rattle.fut_sizes.specs.WrittenSizes.{part as size_part, part_of}
+use Rattle.fut_types.specs.Shapes.{place}
 use Rattle.sizes_meet_rules.proofs.Taking.{parts_same, Of_part, If_part, part_bound, of_part, both_parts, Has_parts, All_have_parts, Fields_have, Field_has, bound_scope, parts_bound, fields_bound, field_bound, Nodes, All_nodes, Fields_nodes, first_node, At_home, among_first, among_later}
 
 -- a name of the pattern whose part is a number may be a size
@@ -65,6 +71,18 @@ pub known_same : (t u : Size) → ◌≡◌ {A = Option Known} (Some (record { s
 unfolding size_of_known
 known_same t u e = ap (size_of_known t) e
 
+pub same_size : (g h : Bool) (t u : Size) → ◌≡◌ {A = Option Known} (Some (record { size = t; is_general = g })) (Some (record { size = u; is_general = h })) → t ≡ u
+unfolding size_of_known
+same_size g h t u e = ap (size_of_known t) e
+
+general_of : Bool → Option Known → Bool
+general_of c (Some k) = k.is_general
+general_of c None = c
+
+pub general_same : (t u : Size) → ◌≡◌ {A = Option Known} (Some (record { size = t; is_general = false })) (Some (record { size = u; is_general = true })) → false ≡ true
+unfolding general_of
+general_same t u e = ap (general_of false) e
+
 -- a size that stands in a value's type, and is no name that is at home at these nodes
 abbrev pub Stands_there : (ℕ → ℕ) → ℕ → ℕ → Size → Free → Type 0
 Stands_there home q hi t d = (stands t d ≡ true) × ((b : ℕ) → d ≡ Name b → (q ≤ home b) × (home b < hi) → ⊥)
@@ -85,6 +103,23 @@ module _ (Q : Free → Type 0) where
     all_stand : (P : Free → Type 0) (ts : Sizes) → All_data ts → Each_all (Scoped Q) 0 ts → ((x : Free) → some_stands ts x ≡ true → P x) → Each_all (Scoped P) 0 ts
     all_stand P no_size d h w = tt
     all_stand P (size_and t ts) d h w = (each_stands P t d.0 h.0 (λ x e. w x (or_first (stands t x) (some_stands ts x) e)), all_stand P ts d.1 h.1 (λ x e. w x (or_later (stands t x) (some_stands ts x) e)))
+
+-- ---- nothing is open in a part of what is not
+
+part_closed : (o : Option ℕ) (ts : Sizes) (u : Size) → size_part o ts ≡ Some u → Each_holes Any_variable ts → Each_hole Any_variable u
+unfolding Each_holes
+part_closed None ts u e h = absurd (let z : None ≡ Some u = e in cc)
+part_closed (Some i) no_size u e h = absurd (let z : None ≡ Some u = e in cc)
+part_closed (Some zero) (size_and t ts) u e h = subst (Each_hole Any_variable) (let z : Some t ≡ Some u = e in let v : t ≡ u = cc in v) h.0
+part_closed (Some (suc i)) (size_and t ts) u e h = part_closed (Some i) ts u e h.1
+
+part_none_open : (N : Names) (f : Text) (t : Size) → Each_hole Any_variable t → (u : Size) → part_of N f t ≡ Some u → Each_hole Any_variable u
+unfolding part_of Each_hole
+part_none_open N f (Built k ts) h u e = part_closed (place N.shapes (N.label f) k) ts u e h
+part_none_open N f (Hole v) h u e = absurd (let z : None ≡ Some u = e in cc)
+part_none_open N f (Open n v x) h u e = absurd h
+part_none_open N f (Level d t) h u e = absurd (let z : None ≡ Some u = e in cc)
+part_none_open N f (Fun k t r) h u e = absurd (let z : None ≡ Some u = e in cc)
 
 -- ---- where the names of a pattern are
 
@@ -120,6 +155,17 @@ none_among (x ∷ xs) ys b e f = by_name (nat_eq b x) (none_among xs ys b) e
     by_name : (c : Bool) → (is_among xs b ≡ false → is_among ys b ≡ false → is_among (xs ++ ys) b ≡ false) → cond c true (is_among xs b) ≡ false → cond c true (is_among (xs ++ ys) b) ≡ false
     by_name true go e = e
     by_name false go e = go e f
+
+-- a name of type i64 is not general
+no_function : (p r : Ty) → i64_ty ≡ fun_ty p r → ⊥
+no_function p r e = let z : Made (head.Scalar (scalar.Int int.I64)) none ≡ Made head.Fun (more p (more r none)) = e in cc
+
+pub number_name : (In : Free → Type 0) (Vars : Variable → Type 0) (types : Sub) (home : ℕ → ℕ) (scope : Scope) (b : ℕ) (k : Known_name In Vars types home scope b i64_ty) → (k.is_general ≡ false) × (erased k.size ≡ i64_ty)
+number_name In Vars types home scope b k = by_form k.is_general refl
+  where
+    by_form : (c : Bool) → k.is_general ≡ c → (k.is_general ≡ false) × (erased k.size ≡ i64_ty)
+    by_form true e = let f = k.function e in absurd (no_function f.0 f.1 f.2)
+    by_form false e = (e, k.typed (λ g. absurd (let z : true ≡ false = sym g ∙ e in cc)))
 
 module _ (types : Sub) (home : ℕ → ℕ) (K : Kinds) (places : Kind) where
   -- the name that it is, and where that is at home
@@ -166,36 +212,43 @@ module _ (types : Sub) (home : ℕ → ℕ) (K : Kinds) (places : Kind) where
   value_home (Typed_pattern p t) q h b e = value_home p q h.1 b e
 
 module _ (N : Names) (types : Sub) (K : Kinds) (places : Kind) (In' : Free → Type 0) (Vars' : Variable → Type 0) where
-  pub known_wider : (In : Free → Type 0) (Vars : Variable → Type 0) → ((d : Free) → In d → In' d) → ((v : Variable) → Vars v → Vars' v) → (scope : Scope) (b : ℕ) (u : Ty) → Known_name In Vars scope b u → Known_name In' Vars' scope b u
-  known_wider In Vars wider more_types scope b u k = record {
-    size = k.size;
-    known = k.known;
-    says = record { sizes = each_scoped In In' wider k.size 0 k.says.sizes; variables = hole_as Vars Vars' more_types k.size k.says.variables; formed = k.says.formed };
-    typed = k.typed;
-    number = λ e. wider (Name b) (k.number e);
-  }
-
   module _ (home : ℕ → ℕ) where
-    known_name : (x : BindId) (q : ℕ) (t : Size) (scope : Scope) (T : TypeScope) → Says In' Vars' t → erased t ≡ types q → (is_number t ≡ true → In' (Name x.0)) → Known_names In' Vars' scope K types T → Known_names In' Vars' (with_name x.0 t scope) K types (typed_with the_one (Bound_pattern x) q T)
-    known_name x q t scope T h e i k b u = elim (ℕ_discrete b x.0) as (λ d. (elim d as (λ d. Uses) [ yes e ↦ the_one q | no ne ↦ T.uses b ]) K types u → Known_name In' Vars' (with_name x.0 t scope) b u) [
+    pub known_wider : (In : Free → Type 0) (Vars : Variable → Type 0) → ((d : Free) → In d → In' d) → ((v : Variable) → Vars v → Vars' v) → (scope : Scope) (b : ℕ) (u : Ty) → Known_name In Vars types home scope b u → Known_name In' Vars' types home scope b u
+    known_wider In Vars wider more_types scope b u k = record {
+      size = k.size;
+      is_general = k.is_general;
+      known = k.known;
+      says = record { sizes = each_scoped In In' wider k.size 0 k.says.sizes; variables = hole_as Vars Vars' more_types k.size k.says.variables; formed = k.says.formed };
+      closed = k.closed;
+      function = k.function;
+      typed = k.typed;
+      number = λ e. wider (Name b) (k.number e);
+    }
+
+    -- a name that is another's
+    pub still_known : (scope inner : Scope) (b : ℕ) (u : Ty) → inner b ≡ scope b → Known_name In' Vars' types home scope b u → Known_name In' Vars' types home inner b u
+    still_known scope inner b u e k = record { size = k.size; is_general = k.is_general; known = e ∙ k.known; says = k.says; closed = k.closed; function = k.function; typed = k.typed; number = k.number }
+
+    known_name : (x : BindId) (q : ℕ) (t : Size) (scope : Scope) (T : TypeScope) → Says In' Vars' t → erased t ≡ types q → (is_number t ≡ true → In' (Name x.0)) → Known_names In' Vars' home scope K types T → Known_names In' Vars' home (with_name x.0 t scope) K types (typed_with the_one (Bound_pattern x) q T)
+    known_name x q t scope T h e i k b u = elim (ℕ_discrete b x.0) as (λ d. (elim d as (λ d. Uses) [ yes e ↦ the_one q | no ne ↦ T.uses b ]) K types u → Known_name In' Vars' types home (with_name x.0 t scope) b u) [
       | yes y ↦ λ a. record {
         size = t;
+        is_general = false;
         known = ap (λ z. cond z (Some (record { size = t; is_general = false })) (scope b)) (eq-eqb x.0 b (sym y));
         says = h;
-        typed = e ∙ sym a;
+        closed = λ g. absurd (let z : false ≡ true = g in cc);
+        function = λ g. absurd (let z : false ≡ true = g in cc);
+        typed = λ g. e ∙ sym a;
         number = λ z. subst (λ c. In' (Name c)) (sym y) (i z);
       }
-      | no ne ↦ λ a. moved (ne_eqb x.0 b (λ z. ne (sym z))) (k b u a)
+      | no ne ↦ λ a. still_known scope (with_name x.0 t scope) b u (ap (λ z. cond z (Some (record { size = t; is_general = false })) (scope b)) (ne_eqb x.0 b (λ z. ne (sym z)))) (k b u a)
     ]
-      where
-        moved : nat_eq x.0 b ≡ false → Known_name In' Vars' scope b u → Known_name In' Vars' (with_name x.0 t scope) b u
-        moved e k = record { size = k.size; known = ap (λ z. cond z (Some (record { size = t; is_general = false })) (scope b)) e ∙ k.known; says = k.says; typed = k.typed; number = k.number }
 
     mutual
       unfolding Each Each_all Each_hole Each_holes Formed All_formed erased all_erased
 
-      known_pattern : (p : FlatPattern) (q : ℕ) (S : TypeScope) → Plain_pattern types home K places p q → Pattern_typed N places K types p q S → (t : Size) → Has_parts N p t → Says In' Vars' t → erased t ≡ types q → ((d : Free) → Named_by N p t d → In' d) → (scope : Scope) (T : TypeScope) → Known_names In' Vars' scope K types T
-          → Known_names In' Vars' (bound_scope N p t scope) K types (typed_with the_one p q T)
+      known_pattern : (p : FlatPattern) (q : ℕ) (S : TypeScope) → Plain_pattern types home K places p q → Pattern_typed N places K types p q S → (t : Size) → Has_parts N p t → Says In' Vars' t → erased t ≡ types q → ((d : Free) → Named_by N p t d → In' d) → (scope : Scope) (T : TypeScope) → Known_names In' Vars' home scope K types T
+          → Known_names In' Vars' home (bound_scope N p t scope) K types (typed_with the_one p q T)
       known_pattern (Bound_pattern x) q S l y t c h e i scope T k = known_name x q t scope T h e (λ z. i (Name x.0) (refl, z)) k
       known_pattern Wild_pattern q S l y t c h e i scope T k = k
       known_pattern (Tuple_pattern ps) q S l y (Built g ts) c h e i scope T k = known_parts ps (1 + q) S l y.0 ts c.1 (record { sizes = h.sizes; variables = h.variables; formed = h.formed.1 }) (parts_same (e ∙ y.1)) i scope T k
@@ -206,8 +259,8 @@ module _ (N : Names) (types : Sub) (K : Kinds) (places : Kind) (In' : Free → T
       known_pattern (Record_pattern fs ps) q S l y t c h e i scope T k = known_fields fs ps (1 + q) S l y.0 (types q) y.1.named t c h e i scope T k
       known_pattern (Typed_pattern p w) q S l y t c h e i scope T k = known_pattern p q S l.1 y.0 t c.1 h e i scope T k
 
-      known_parts : (ps : Patterns Ref BindId) (q : ℕ) (S : TypeScope) → Plain_parts types home K places ps q → Patterns_typed N places K types ps q S → (ts : Sizes) → All_have_parts N ps ts → All_say In' Vars' ts → all_erased ts ≡ pattern_types types ps q → ((d : Free) → Part_named N ps ts d → In' d) → (scope : Scope) (T : TypeScope) → Known_names In' Vars' scope K types T
-          → Known_names In' Vars' (parts_bound N ps ts scope) K types (all_typed_with the_one ps q T)
+      known_parts : (ps : Patterns Ref BindId) (q : ℕ) (S : TypeScope) → Plain_parts types home K places ps q → Patterns_typed N places K types ps q S → (ts : Sizes) → All_have_parts N ps ts → All_say In' Vars' ts → all_erased ts ≡ pattern_types types ps q → ((d : Free) → Part_named N ps ts d → In' d) → (scope : Scope) (T : TypeScope) → Known_names In' Vars' home scope K types T
+          → Known_names In' Vars' home (parts_bound N ps ts scope) K types (all_typed_with the_one ps q T)
       known_parts no_pattern q S l y no_size c h e i scope T k = k
       known_parts no_pattern q S l y (size_and t ts) c h e i scope T k = absurd c
       known_parts (pattern_and p ps) q S l y no_size c h e i scope T k = absurd c
@@ -216,39 +269,53 @@ module _ (N : Names) (types : Sub) (K : Kinds) (places : Kind) (In' : Free → T
           known_parts ps (q + pattern_numbers p) S l.1 y.1 ts c.1 (rest_say In' Vars' t ts h) (let w : all_erased ts ≡ pattern_types types ps (q + pattern_numbers p) = cc in w) (λ d n. i d (inr n)) (bound_scope N p t scope) (typed_with the_one p q T)
           (known_pattern p q S l.0 y.0 t c.0 (first_says In' Vars' t ts h) (let w : erased t ≡ types q = cc in w) (λ d n. i d (inl n)) scope T k)
 
-      known_fields : (ls : List Text) (ps : Patterns Ref BindId) (q : ℕ) (S : TypeScope) → Plain_parts types home K places ps q → Patterns_typed N places K types ps q S → (U : Ty) → Parts_named N ls U (pattern_types types ps q) → (t : Size) → Fields_have N ls ps t → Says In' Vars' t → erased t ≡ U → ((d : Free) → Fields_named N ls ps t d → In' d) → (scope : Scope) (T : TypeScope) → Known_names In' Vars' scope K types T
-          → Known_names In' Vars' (fields_bound N ls ps t scope) K types (all_typed_with the_one ps q T)
+      known_fields : (ls : List Text) (ps : Patterns Ref BindId) (q : ℕ) (S : TypeScope) → Plain_parts types home K places ps q → Patterns_typed N places K types ps q S → (U : Ty) → Parts_named N ls U (pattern_types types ps q) → (t : Size) → Fields_have N ls ps t → Says In' Vars' t → erased t ≡ U → ((d : Free) → Fields_named N ls ps t d → In' d) → (scope : Scope) (T : TypeScope) → Known_names In' Vars' home scope K types T
+          → Known_names In' Vars' home (fields_bound N ls ps t scope) K types (all_typed_with the_one ps q T)
       known_fields [] no_pattern q S l y U g t c h e i scope T k = k
       known_fields [] (pattern_and p ps) q S l y U g t c h e i scope T k = absurd c
       known_fields (f ∷ ls) no_pattern q S l y U g t c h e i scope T k = absurd c
       known_fields (f ∷ ls) (pattern_and p ps) q S l y U g t c h e i scope T k =
           let P = part_of_says N In' Vars' f t U (types q) h e g.0 in
           known_fields ls ps (q + pattern_numbers p) S l.1 y.1 U g.1 t c.1 h e (λ d n. i d (inr n)) (field_bound N p (part_of N f t) scope) (typed_with the_one p q T)
-          (subst (λ o. Known_names In' Vars' (field_bound N p o scope) K types (typed_with the_one p q T)) (sym P.is)
+          (subst (λ o. Known_names In' Vars' home (field_bound N p o scope) K types (typed_with the_one p q T)) (sym P.is)
           (known_pattern p q S l.0 y.0 P.part (subst (Field_has N p) P.is c.0) P.says P.typed (λ d n. i d (inl (subst (λ o. Field_named N p o d) (sym P.is) n))) scope T k))
 
-    pub known_with : (In : Free → Type 0) (Vars : Variable → Type 0) → ((d : Free) → In d → In' d) → ((v : Variable) → Vars v → Vars' v) → (p : FlatPattern) (q : ℕ) (S : TypeScope) → Plain_pattern types home K places p q → Pattern_typed N places K types p q S → (t : Size) → Has_parts N p t → (scope : Scope) (T : TypeScope) → Known_names In Vars scope K types T → Says In' Vars' t → erased t ≡ types q → ((d : Free) → Named_by N p t d → In' d)
-        → Known_names In' Vars' (bound_scope N p t scope) K types (typed_with the_one p q T)
+    pub known_with : (In : Free → Type 0) (Vars : Variable → Type 0) → ((d : Free) → In d → In' d) → ((v : Variable) → Vars v → Vars' v) → (p : FlatPattern) (q : ℕ) (S : TypeScope) → Plain_pattern types home K places p q → Pattern_typed N places K types p q S → (t : Size) → Has_parts N p t → (scope : Scope) (T : TypeScope) → Known_names In Vars home scope K types T → Says In' Vars' t → erased t ≡ types q → ((d : Free) → Named_by N p t d → In' d)
+        → Known_names In' Vars' home (bound_scope N p t scope) K types (typed_with the_one p q T)
     known_with In Vars wider more_types p q S l y t c scope T k h e i = known_pattern p q S l y t c h e i scope T (λ b u a. known_wider In Vars wider more_types scope b u (k b u a))
 
     -- ---- and the rules know the same
 
     module _ (s : ℕ → Size) where
-      module _ (b : ℕ) (u : Size) where
+      module _ (b : ℕ) (g : Bool) (u : Size) where
         abbrev Gives : Option Known → Type 0
-        Gives o = o ≡ Some (record { size = u; is_general = false })
+        Gives o = o ≡ Some (record { size = u; is_general = g })
+
+        -- what the rules know of a name, general or not
+        abbrev named_in : Bool → Context → Option Size
+        named_in c G = cond c (G.schemes b) (G.sizes b)
 
         field_sizes : (o : Option Size) (P Q : Size → Type 0) (bound : Size → Scope → Scope) (scope : Scope) (X : Type 0) → ((v : Size) → P v → Q v → Gives (bound v scope b) → X) → Of_part o P → If_part o Q → Gives (part_bound o bound scope b) → X
         field_sizes (Some t) P Q bound scope X f h k z = f t h k z
         field_sizes None P Q bound scope X f h k z = absurd h
 
         mutual
-          sizes_with : (p : FlatPattern) (q : ℕ) (t : Size) → Has_parts N p t → Nodes N p q t s → (scope : Scope) (G : Context) → (is_among (names p) b ≡ false → Gives (scope b) → G.sizes b ≡ Some u) → Gives (bound_scope N p t scope b) → (with_names s p q G).sizes b ≡ Some u
+          sizes_with : (p : FlatPattern) (q : ℕ) (t : Size) → Has_parts N p t → Nodes N p q t s → (scope : Scope) (G : Context) → (is_among (names p) b ≡ false → Gives (scope b) → named_in g G ≡ Some u) → Gives (bound_scope N p t scope b) → named_in g (with_names s p q G) ≡ Some u
           sizes_with (Bound_pattern x) q t c n scope G hyp z = by_name (nat_eq x.0 b) refl z
             where
-              by_name : (c : Bool) → nat_eq x.0 b ≡ c → ◌≡◌ {A = Option Known} (cond c (Some (record { size = t; is_general = false })) (scope b)) (Some (record { size = u; is_general = false })) → cond (nat_eq x.0 b) (Some (s q)) (G.sizes b) ≡ Some u
-              by_name true f z = ap (λ c. cond c (Some (s q)) (G.sizes b)) f ∙ ap Some (n ∙ known_same t u z)
-              by_name false f z = ap (λ c. cond c (Some (s q)) (G.sizes b)) f ∙ hyp (ap (λ c. cond c true false) (ne_eqb b x.0 (λ y. eqb-false x.0 b f (sym y)))) z
+              here : (k : Bool) → ◌≡◌ {A = Option Known} (Some (record { size = t; is_general = false })) (Some (record { size = u; is_general = k })) → cond k None (Some (s q)) ≡ Some u
+              here false w = ap Some (n ∙ known_same t u w)
+              here true w = absurd (let y = general_same t u w in let v : false ≡ true = y in cc)
+
+              two : (c k : Bool) → cond k (cond c None (G.schemes b)) (cond c (Some (s q)) (G.sizes b)) ≡ cond c (cond k None (Some (s q))) (named_in k G)
+              two true true = refl
+              two true false = refl
+              two false true = refl
+              two false false = refl
+
+              by_name : (c : Bool) → nat_eq x.0 b ≡ c → ◌≡◌ {A = Option Known} (cond c (Some (record { size = t; is_general = false })) (scope b)) (Some (record { size = u; is_general = g })) → named_in g (with_names s (Bound_pattern x) q G) ≡ Some u
+              by_name true f w = two (nat_eq x.0 b) g ∙ ap (λ c. cond c (cond g None (Some (s q))) (named_in g G)) f ∙ here g w
+              by_name false f w = two (nat_eq x.0 b) g ∙ ap (λ c. cond c (cond g None (Some (s q))) (named_in g G)) f ∙ hyp (ap (λ c. cond c true false) (ne_eqb b x.0 (λ y. eqb-false x.0 b f (sym y)))) w
           sizes_with Wild_pattern q t c n scope G hyp z = hyp refl z
           sizes_with (Tuple_pattern ps) q (Built g ts) c n scope G hyp z = parts_sizes ps (1 + q) ts c.1 n.1 scope G hyp z
           sizes_with (Tuple_pattern ps) q (Hole v) c n scope G hyp z = absurd c
@@ -258,19 +325,19 @@ module _ (N : Names) (types : Sub) (K : Kinds) (places : Kind) (In' : Free → T
           sizes_with (Record_pattern fs ps) q t c n scope G hyp z = fields_sizes fs ps (1 + q) t c n.1 scope G hyp z
           sizes_with (Typed_pattern p e) q t c n scope G hyp z = sizes_with p q t c.1 n scope G hyp z
 
-          parts_sizes : (ps : Patterns Ref BindId) (q : ℕ) (ts : Sizes) → All_have_parts N ps ts → All_nodes N ps q ts s → (scope : Scope) (G : Context) → (is_among (all_names ps) b ≡ false → Gives (scope b) → G.sizes b ≡ Some u) → Gives (parts_bound N ps ts scope b) → (with_all_names s ps q G).sizes b ≡ Some u
+          parts_sizes : (ps : Patterns Ref BindId) (q : ℕ) (ts : Sizes) → All_have_parts N ps ts → All_nodes N ps q ts s → (scope : Scope) (G : Context) → (is_among (all_names ps) b ≡ false → Gives (scope b) → named_in g G ≡ Some u) → Gives (parts_bound N ps ts scope b) → named_in g (with_all_names s ps q G) ≡ Some u
           parts_sizes no_pattern q no_size c n scope G hyp z = hyp refl z
           parts_sizes no_pattern q (size_and t ts) c n scope G hyp z = absurd c
           parts_sizes (pattern_and p ps) q no_size c n scope G hyp z = absurd c
           parts_sizes (pattern_and p ps) q (size_and t ts) c n scope G hyp z = parts_sizes ps (q + pattern_numbers p) ts c.1 n.1 (bound_scope N p t scope) (with_names s p q G)
               (λ f y. sizes_with p q t c.0 n.0 scope G (λ e w. hyp (none_among (names p) (all_names ps) b e f) w) y) z
 
-          fields_sizes : (ls : List Text) (ps : Patterns Ref BindId) (q : ℕ) (t : Size) → Fields_have N ls ps t → Fields_nodes N ls ps q t s → (scope : Scope) (G : Context) → (is_among (all_names ps) b ≡ false → Gives (scope b) → G.sizes b ≡ Some u) → Gives (fields_bound N ls ps t scope b) → (with_all_names s ps q G).sizes b ≡ Some u
+          fields_sizes : (ls : List Text) (ps : Patterns Ref BindId) (q : ℕ) (t : Size) → Fields_have N ls ps t → Fields_nodes N ls ps q t s → (scope : Scope) (G : Context) → (is_among (all_names ps) b ≡ false → Gives (scope b) → named_in g G ≡ Some u) → Gives (fields_bound N ls ps t scope b) → named_in g (with_all_names s ps q G) ≡ Some u
           fields_sizes [] no_pattern q t c n scope G hyp z = hyp refl z
           fields_sizes [] (pattern_and p ps) q t c n scope G hyp z = absurd c
           fields_sizes (l ∷ ls) no_pattern q t c n scope G hyp z = absurd c
           fields_sizes (l ∷ ls) (pattern_and p ps) q t c n scope G hyp z = fields_sizes ls ps (q + pattern_numbers p) t c.1 n.1 (field_bound N p (part_of N l t) scope) (with_names s p q G)
-              (λ f y. field_sizes (part_of N l t) (λ u. Has_parts N p u) (λ u. Nodes N p q u s) (λ v inner. bound_scope N p v inner) scope ((with_names s p q G).sizes b ≡ Some u) (λ v g m w. sizes_with p q v g m scope G (λ e r. hyp (none_among (names p) (all_names ps) b e f) r) w) c.0 n.0 y) z
+              (λ f y. field_sizes (part_of N l t) (λ u. Has_parts N p u) (λ u. Nodes N p q u s) (λ v inner. bound_scope N p v inner) scope (named_in g (with_names s p q G) ≡ Some u) (λ v g m w. sizes_with p q v g m scope G (λ e r. hyp (none_among (names p) (all_names ps) b e f) r) w) c.0 n.0 y) z
 
       abbrev pub Not_there : ℕ → ℕ → Free → Type 0
       Not_there q hi d = (b : ℕ) → d ≡ Name b → At_home types home K places q hi b → ⊥
@@ -334,10 +401,51 @@ module _ (N : Names) (types : Sub) (K : Kinds) (places : Kind) (In' : Free → T
         parts_types_still no_pattern q G v = refl
         parts_types_still (pattern_and p ps) q G v = parts_types_still ps (q + pattern_numbers p) (with_names s p q G) v ∙ types_still p q G v
 
-      module _ (p : FlatPattern) (q : ℕ) (l : Plain_pattern types home K places p q) (t : Size) (c : Has_parts N p t) (n : Nodes N p q t s) (scope : Scope) (G : Context) (known : (b : ℕ) (u : Size) → is_among (names p) b ≡ false → scope b ≡ Some (record { size = u; is_general = false }) → G.sizes b ≡ Some u) where
+      of_field : (o : Option Size) (p : FlatPattern) (q : ℕ) (X : Type 0) → ((u : Size) → o ≡ Some u → Has_parts N p u → Nodes N p q u s → X) → Field_has N p o → If_part o (λ u. Nodes N p q u s) → X
+      of_field (Some u) p q X f c n = f u refl c n
+      of_field None p q X f c n = absurd c
+
+      -- nothing is open in the parts of what is not
+      mutual
+        unfolding Each_hole Each_holes
+
+        none_open_with : (p : FlatPattern) (q : ℕ) (t : Size) → Has_parts N p t → Nodes N p q t s → Each_hole Any_variable t → (G : Context) → None_open G → None_open (with_names s p q G)
+        none_open_with (Bound_pattern x) q t c n h G o = (λ b u z. by_size b u (nat_eq x.0 b) z, λ b u z. by_scheme b u (nat_eq x.0 b) z)
+          where
+            by_size : (b : ℕ) (u : Size) (k : Bool) → cond k (Some (s q)) (G.sizes b) ≡ Some u → Each_hole Any_variable u
+            by_size b u true z = subst (Each_hole Any_variable) (sym n ∙ (let w : Some (s q) ≡ Some u = z in let v : s q ≡ u = cc in v)) h
+            by_size b u false z = o.0 b u z
+
+            by_scheme : (b : ℕ) (u : Size) (k : Bool) → cond k None (G.schemes b) ≡ Some u → Each_hole Any_variable u
+            by_scheme b u true z = absurd (let w : None ≡ Some u = z in cc)
+            by_scheme b u false z = o.1 b u z
+        none_open_with Wild_pattern q t c n h G o = o
+        none_open_with (Tuple_pattern ps) q (Built g ts) c n h G o = none_open_parts ps (1 + q) ts c.1 n.1 h G o
+        none_open_with (Tuple_pattern ps) q (Hole v) c n h G o = absurd c
+        none_open_with (Tuple_pattern ps) q (Open m v w) c n h G o = absurd c
+        none_open_with (Tuple_pattern ps) q (Level d t) c n h G o = absurd c
+        none_open_with (Tuple_pattern ps) q (Fun k p r) c n h G o = absurd c
+        none_open_with (Record_pattern fs ps) q t c n h G o = none_open_fields fs ps (1 + q) t c n.1 h G o
+        none_open_with (Typed_pattern p e) q t c n h G o = none_open_with p q t c.1 n h G o
+
+        none_open_parts : (ps : Patterns Ref BindId) (q : ℕ) (ts : Sizes) → All_have_parts N ps ts → All_nodes N ps q ts s → Each_holes Any_variable ts → (G : Context) → None_open G → None_open (with_all_names s ps q G)
+        none_open_parts no_pattern q ts c n h G o = o
+        none_open_parts (pattern_and p ps) q no_size c n h G o = absurd c
+        none_open_parts (pattern_and p ps) q (size_and t ts) c n h G o = none_open_parts ps (q + pattern_numbers p) ts c.1 n.1 h.1 (with_names s p q G) (none_open_with p q t c.0 n.0 h.0 G o)
+
+        none_open_fields : (ls : List Text) (ps : Patterns Ref BindId) (q : ℕ) (t : Size) → Fields_have N ls ps t → Fields_nodes N ls ps q t s → Each_hole Any_variable t → (G : Context) → None_open G → None_open (with_all_names s ps q G)
+        none_open_fields [] no_pattern q t c n h G o = o
+        none_open_fields [] (pattern_and p ps) q t c n h G o = absurd c
+        none_open_fields (l ∷ ls) no_pattern q t c n h G o = absurd c
+        none_open_fields (l ∷ ls) (pattern_and p ps) q t c n h G o = none_open_fields ls ps (q + pattern_numbers p) t c.1 n.1 h (with_names s p q G)
+            (of_field (part_of N l t) p q (None_open (with_names s p q G)) (λ u e k m. none_open_with p q u k m (part_none_open N l t h u e) G o) c.0 n.0)
+
+      module _ (p : FlatPattern) (q : ℕ) (l : Plain_pattern types home K places p q) (t : Size) (c : Has_parts N p t) (n : Nodes N p q t s) (scope : Scope) (G : Context) (known : (b : ℕ) (g : Bool) (u : Size) → is_among (names p) b ≡ false → scope b ≡ Some (record { size = u; is_general = g }) → named_in b g u g G ≡ Some u) (none_open : None_open G) (closed : Each_hole Any_variable t) where
         pub judged_names : ((d : Free) → In' d → Named_by N p t d ⊎ (((G.finds d ≡ true) × Not_there q (q + pattern_numbers p) d) ⊎ Is_const d)) → ((v : Variable) → Vars' v → G.finds_types v ≡ true) → Judged In' Vars' (bound_scope N p t scope) (with_names s p q G)
         judged_names split types_found = record {
-          sizes = λ b u z. sizes_with b u p q t c n scope G (known b u) z;
+          sizes = λ b u z. sizes_with b false u p q t c n scope G (known b false u) z;
+          schemes = λ b u z. sizes_with b true u p q t c n scope G (known b true u) z;
+          none_open = none_open_with p q t c n closed G none_open;
           finds = λ d i. by_form d (split d i);
           finds_types = λ v i. types_still p q G v ∙ types_found v i;
         }
@@ -350,10 +458,10 @@ module _ (N : Names) (types : Sub) (K : Kinds) (places : Kind) (In' : Free → T
       module _ (In : Free → Type 0) (Vars : Variable → Type 0) (p : FlatPattern) (q : ℕ) (l : Plain_pattern types home K places p q) (t : Size) (c : Has_parts N p t) (n : Nodes N p q t s) (scope : Scope) (G : Context) where
         pub judged_with : ((b : ℕ) → In (Name b) → At_home types home K places q (q + pattern_numbers p) b → ⊥)
             → ((d : Free) → In' d → In d ⊎ (Stands_there home q (q + pattern_numbers p) t d ⊎ (Named_by N p t d ⊎ Is_const d))) → ((v : Variable) → Vars' v → Vars v ⊎ (has_hole t v ≡ true))
-            → ((b : ℕ) (u : Size) → is_among (names p) b ≡ false → scope b ≡ Some (record { size = u; is_general = false }) → G.sizes b ≡ Some u)
+            → ((b : ℕ) (g : Bool) (u : Size) → is_among (names p) b ≡ false → scope b ≡ Some (record { size = u; is_general = g }) → named_in b g u g G ≡ Some u) → None_open G → Each_hole Any_variable t
             → ((d : Free) → In d → (G.finds d ≡ true) ⊎ Is_const d) → ((v : Variable) → Vars v → G.finds_types v ≡ true)
             → Judged In' Vars' (bound_scope N p t scope) (with_pattern s p q G)
-        judged_with apart split split_types known finds types_found = judged_names p q l t c n scope (with_entered (s q) G) known (λ d i. by_form d (split d i)) (λ v i. types_here v (split_types v i))
+        judged_with apart split split_types known none_open closed finds types_found = judged_names p q l t c n scope (with_entered (s q) G) known none_open closed (λ d i. by_form d (split d i)) (λ v i. types_here v (split_types v i))
           where
             standing : (d : Free) → stands t d ≡ true → stands (s q) d || (stands_told (s q) d || G.finds d) ≡ true
             standing d y = or_first (stands (s q) d) (stands_told (s q) d || G.finds d) (ap (λ u. stands u d) (first_node N p q t s n) ∙ y)

@@ -64,7 +64,7 @@ module _ (P : Free → Type 0) where
     of_type_owned dims (Made head.Fun (more p (more r none))) i j f h =
         let a = of_type_owned (in_frame 0) p 0 (suc j) f.0 (λ i. omega arith) in
         let b = of_type_owned (in_frame (suc (type_levels p))) r 0 (suc j) f.1 (λ i. omega arith) in
-        record { sizes = (a.sizes, b.sizes); typed = ap (λ x. fun_ty x (erased (of_type (in_frame (suc (type_levels p))) 0 r))) a.typed ∙ ap (fun_ty p) b.typed; formed = (a.formed, b.formed, of_type_low (λ m. m < type_levels p) (in_frame 0) p 0 1 (omega arith) f.0 (λ m x e. omega (arith, x))); variables = (a.variables, b.variables) }
+        record { sizes = (a.sizes, b.sizes); typed = ap (λ x. fun_ty x (erased (of_type (in_frame (suc (type_levels p))) 0 r))) a.typed ∙ ap (fun_ty p) b.typed; formed = (a.formed, b.formed, of_type_low (λ m. m < type_levels p) (in_frame 0) p 0 1 (omega arith) f.0 (λ m x e. omega (arith, x)), λ n. of_type_low (λ m. m ≡ type_levels p → ⊥) (in_frame (suc (type_levels p))) r 0 1 (omega arith) f.1 (λ m x e z. omega (arith, z))); variables = (a.variables, b.variables) }
     of_type_owned dims (Made head.Fun (more p (more r (more t ts)))) i j f h = absurd f
     of_type_owned dims (Made (head.Scalar s) none) i j f h = record { sizes = tt; typed = refl; formed = (tt, tt); variables = tt }
     of_type_owned dims (Made (head.Scalar s) (more t ts)) i j f h = absurd f

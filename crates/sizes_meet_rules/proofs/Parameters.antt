@@ -1,5 +1,5 @@
 -- The function type of some parameters and a body meets the rules where the body does.
-use Rattle.std.proofs.Common.{◌≡◌, ◌⊎◌, ℕ, suc, ◌+◌, ◌<◌, ◌≤◌, List, [], length, Bool, true, false, cond, Option, Some, refl, sym, ap, ◌∙◌, subst, arith, inl, inr, eq-eqb}
+use Rattle.std.proofs.Common.{◌≡◌, ◌⊎◌, ℕ, suc, ◌+◌, ◌<◌, ◌≤◌, List, [], length, Bool, true, false, cond, Option, Some, None, refl, sym, ap, ◌∙◌, subst, arith, inl, inr, eq-eqb}
 use Rattle.fut_scalar.specs.declared.place.BindId.{BindId}
 use Rattle.fut_flat.specs.declared.prim.Ref.{Ref}
 use Rattle.fut_flat.specs.Numbers.{pattern_numbers, all_pattern_numbers}
@@ -14,21 +14,22 @@ use Rattle.fut_typing.specs.Typing.{Typed}
 use Rattle.sized_types.specs.Sizes.{Free, Const, Name, Own, Unknown, Slot, Dim, At, Bound, Variable, Size, Hole, Open, Level, Built, Fun, Sizes, no_size, size_and, has, some_has, erased, all_erased, bound, binding, renaming, renamed, takes}
 use Rattle.sized_types.specs.Standing.{stands}
 use Rattle.fut_sizes.specs.Agreeing.{left, leave, names_one, is_among}
-use Rattle.fut_sizes.specs.Functions.{stands_among, sizes_in, is_own, is_met, is_slot, arrow, function_size}
+use Rattle.fut_sizes.specs.Functions.{value_name, stands_among, sizes_in, is_own, is_met, is_slot, arrow, function_size}
 use Rattle.fut_sizes.specs.Rules.{Each_hole, Pattern_takes, Telling, Takes, Sized}
 use Rattle.fut_sizes.specs.Scopes.{Scope}
 use Rattle.fut_sizes.specs.Sizing.{part_names, all_part_names}
-use Rattle.fut_sizes.specs.Scoping.{Context, with_positions, with_pattern}
+use Rattle.fut_sizes.specs.Scoping.{is_number, Context, with_positions, with_pattern}
 use Rattle.fut_sizes.specs.Steps.{State}
 use Rattle.fut_sizes.specs.Suiting.{Each, Each_all, Scoped}
 use Rattle.sizes_meet_rules.specs.Known.{Known_names, Is_const, Judged, Elsewhere, Formed}
 use Rattle.sizes_meet_rules.specs.Plain.{Plain_pattern, Plain_parts, Plain_patterns, Formed_type}
-use Rattle.sizes_meet_rules.proofs.Arrows.{bound_low, frame, frame_chosen, position, May_stand, arrow_back, arrow_scoped, binder, owned_here, standing_own}
+use Rattle.sizes_meet_rules.proofs.Arrows.{Is_value, value_is, bound_low, frame, frame_chosen, position, May_stand, arrow_back, arrow_scoped, binder, owned_here, standing_own}
 use Rattle.sizes_meet_rules.proofs.Binding.{Leaves, left_name}
 use Rattle.sizes_meet_rules.proofs.Entering.{Lacks, param, Param_says, Written_in, All_written_in, param_says, param_data, takings, all_bound, All_fit, Own_nodes}
+use Rattle.sizes_meet_rules.proofs.Settling.{Any_variable}
 use Rattle.sizes_meet_rules.proofs.Showing.{sizes_written}
-use Rattle.sizes_meet_rules.proofs.Forming.{renaming_keeps, binding_keeps, formed_replaced}
-use Rattle.sizes_meet_rules.proofs.Functions.{Unknown_met, Unmet, met_unknown, none_met, Entered_in, entered_may, last_may, entered_judged, tells}
+use Rattle.sizes_meet_rules.proofs.Forming.{number_replaced, renaming_keeps, binding_keeps, formed_replaced}
+use Rattle.sizes_meet_rules.proofs.Functions.{no_value, Unknown_met, Unmet, met_unknown, none_met, Entered_in, entered_may, last_may, entered_judged, tells}
 use Rattle.sizes_meet_rules.proofs.Meeting.{In_nodes, Met_in, With_met, met_wider, each_scoped, inside_wider, elsewhere_narrower, Meets}
 use Rattle.sizes_meet_rules.proofs.Naming.{Named_by, each_stands, named_there, known_with}
 use Rattle.sizes_meet_rules.proofs.Taking.{pattern_some, Has_parts, bound_scope, Nodes, first_node, among_first, among_later, takes_it}
@@ -70,19 +71,19 @@ module _ (N : Names) (types : Sub) (home : ℕ → ℕ) (K : Kinds) (places : Ki
 
   -- written sizes are known
   mutual
-    written_known : (In : Free → Type 0) (Vars : Variable → Type 0) (scope : Scope) (T : TypeScope) → Known_names In Vars scope K types T → (p : FlatPattern) (q n : ℕ) → Plain_pattern types home K places p n → Pattern_typed N places K types p n T → Written_in N types home K places (Own_or_known In q) p
+    written_known : (In : Free → Type 0) (Vars : Variable → Type 0) (scope : Scope) (T : TypeScope) → Known_names In Vars home scope K types T → (p : FlatPattern) (q n : ℕ) → Plain_pattern types home K places p n → Pattern_typed N places K types p n T → Written_in N types home K places (Own_or_known In q) p
     written_known In Vars scope T known (Bound_pattern x) q n h t = tt
     written_known In Vars scope T known Wild_pattern q n h t = tt
     written_known In Vars scope T known (Tuple_pattern ps) q n h t = all_written_known In Vars scope T known ps q (1 + n) h t.0
     written_known In Vars scope T known (Record_pattern fs ps) q n h t = tt
-    written_known In Vars scope T known (Typed_pattern p e) q n h t = (sizes_written N types K places In (Own_or_known In q) Vars (λ d i. inr (inl i)) e scope T (types n) known t.1, written_known In Vars scope T known p q n h.1 t.0)
+    written_known In Vars scope T known (Typed_pattern p e) q n h t = (sizes_written N types home K places In (Own_or_known In q) Vars (λ d i. inr (inl i)) e scope T (types n) known t.1, written_known In Vars scope T known p q n h.1 t.0)
 
-    all_written_known : (In : Free → Type 0) (Vars : Variable → Type 0) (scope : Scope) (T : TypeScope) → Known_names In Vars scope K types T → (ps : Patterns Ref BindId) (q n : ℕ) → Plain_parts types home K places ps n → Patterns_typed N places K types ps n T → All_written_in N types home K places (Own_or_known In q) ps
+    all_written_known : (In : Free → Type 0) (Vars : Variable → Type 0) (scope : Scope) (T : TypeScope) → Known_names In Vars home scope K types T → (ps : Patterns Ref BindId) (q n : ℕ) → Plain_parts types home K places ps n → Patterns_typed N places K types ps n T → All_written_in N types home K places (Own_or_known In q) ps
     all_written_known In Vars scope T known no_pattern q n h t = tt
     all_written_known In Vars scope T known (pattern_and p ps) q n h t = (written_known In Vars scope T known p q n h.0 t.0, all_written_known In Vars scope T known ps q (n + pattern_numbers p) h.1 t.1)
 
   module _ (e : FlatTerm) (lo at hi : ℕ) (l3 : at < hi) (parts : List ℕ) (u r : Size) (L : Leaves lo parts u r) (before after : State) (Vars : Variable → Type 0) (final : Scope)
-      (body : (In : Free → Type 0) (scope : Scope) (T : TypeScope) → Typed N places e at T K types → Known_names In Vars scope K types T → Elsewhere N types home at hi In → scope ≡ final → Meets N types home In Vars scope e at hi before u after) where
+      (body : (In : Free → Type 0) (scope : Scope) (T : TypeScope) → Typed N places e at T K types → Known_names In Vars home scope K types T → Elsewhere N types home at hi In → scope ≡ final → Meets N types home In Vars scope e at hi before u after) where
     abbrev size_from : Patterns Ref BindId → ℕ → Size
     size_from ps q = function_size [] lo hi (takings N types home K places ps q) r
 
@@ -123,7 +124,7 @@ module _ (N : Names) (types : Sub) (home : ℕ → ℕ) (K : Kinds) (places : Ki
     left_as (Slot i) = inr (refl, λ b z. absurd (let y : Slot i ≡ Name b = z in cc))
 
     -- the body
-    last_rest : (In : Free → Type 0) (scope : Scope) (T : TypeScope) → Typed N places e at T K types → Known_names In Vars scope K types T → Elsewhere N types home at hi In → scope ≡ final → lo < at → Rest no_pattern at In scope
+    last_rest : (In : Free → Type 0) (scope : Scope) (T : TypeScope) → Typed N places e at T K types → Known_names In Vars home scope K types T → Elsewhere N types home at hi In → scope ≡ final → lo < at → Rest no_pattern at In scope
     unfolding function_size
     last_rest In scope T t k E z l = record {
       body_says = (M.says.sizes, M.says.variables);
@@ -170,12 +171,20 @@ module _ (N : Names) (types : Sub) (home : ℕ → ℕ) (K : Kinds) (places : Ki
       unfolding erased all_erased
       arrow_typed met t u z = ap (λ w. fun_ty w (erased (bound (place met) t))) (erased_replaced (binding (place met)) (own p q) 0 ∙ o.typed) ∙ ap (fun_ty (types q)) (erased_replaced (binding (place met)) t 0 ∙ z)
 
-      arrow_formed : (met : List Free) (mets : (x : Free) → stands_among met x ≡ true → Unknown_met In x) (t : Size) → Formed t → Formed (one_arrow met t)
+      -- nothing in it is the value of a parameter that is no number
+      abbrev No_value : Free → Type 0
+      No_value x = is_number (own p q) ≡ false → Is_value (value_name p) x → ⊥
+
+      not_placed : (met : List Free) (mets : (x : Free) → stands_among met x ≡ true → Unknown_met In x) → is_number (own p q) ≡ false → (x : Free) → May_be met x × No_value x → (m : ℕ) → place met x ≡ Some m → m ≡ many → ⊥
+      not_placed met mets e x w m z y = w.1 e (value_is N types home K places lo at hi q p plain In E l2 (omega (arith, l3)) (own p q) o.sizes (own_stands In p q o k) met mets x w.0 (z ∙ ap Some y))
+
+      arrow_formed : (met : List Free) (mets : (x : Free) → stands_among met x ≡ true → Unknown_met In x) (t : Size) → Each (Scoped (λ x. May_be met x × No_value x)) 0 t → Formed t → Formed (one_arrow met t)
       unfolding Formed
-      arrow_formed met mets t h = (
+      arrow_formed met mets t m h = (
         formed_replaced (binding (place met)) (binding_keeps (place met)) (own p q) 0 o.formed,
         formed_replaced (binding (place met)) (binding_keeps (place met)) t 0 h,
         bound_low (place met) (λ i. i < many) (own p q) (each_scoped (λ x. stands (own p q) x ≡ true) (λ x. (m : ℕ) → place met x ≡ Some m → m < many) (frame_chosen N types home K places lo at hi q p plain In E l2 (omega (arith, l3)) (own p q) o.sizes (own_stands In p q o k) met mets) (own p q) 0 (own_stands In p q o k)),
+        λ e. bound_low (place met) (λ i. i ≡ many → ⊥) t (each_scoped (λ x. May_be met x × No_value x) (λ x. (i : ℕ) → place met x ≡ Some i → i ≡ many → ⊥) (not_placed met mets (sym (number_replaced (binding (place met)) (own p q) 0) ∙ e)) t 0 m),
       )
 
       arrow_variables : (met : List Free) (t : Size) → Each_hole Vars t → Each_hole Vars (one_arrow met t)
@@ -199,14 +208,14 @@ module _ (N : Names) (types : Sub) (home : ℕ → ℕ) (K : Kinds) (places : Ki
       -- one arrow more
       one_more : (ps : Patterns Ref BindId) (met : List Free) (mets : (x : Free) → stands_among met x ≡ true → Unknown_met In x)
           → size_from (pattern_and p ps) q ≡ one_arrow met (size_from ps (q + pattern_numbers p))
-          → Each (Scoped (λ x. May_be met x × No_part_of x)) 0 (size_from ps (q + pattern_numbers p)) → Rest ps (q + pattern_numbers p) In' (bound_scope N p (own p q) scope)
+          → Each (Scoped (λ x. May_be met x × No_part_of x)) 0 (size_from ps (q + pattern_numbers p)) → Each (Scoped (λ x. May_be met x × No_value x)) 0 (size_from ps (q + pattern_numbers p)) → Rest ps (q + pattern_numbers p) In' (bound_scope N p (own p q) scope)
           → ((s : ℕ → Size) (G : Context) → Judged In Vars scope G → s q ≡ own p q → ((n : ℕ) → at ≤ n → n < hi → s n ≡ after.nodes n) → Telling N types s home ps q at many (bound (place met) (own p q)) (bound (place met) (size_from ps (q + pattern_numbers p))) G)
           → Rest (pattern_and p ps) q In scope
-      one_more ps met mets shape m R tell = record {
+      one_more ps met mets shape m mv R tell = record {
         body_says = tt;
         sizes = subst (λ w. Each (Scoped (λ d. (In d ⊎ Is_const d) × No_part_of d)) 0 w) (sym shape) (arrow_scoped N types home K places lo at hi q p plain In E l2 (omega (arith, l3)) (own p q) o.sizes (own_stands In p q o k) met mets No_part_of own_no_part t m);
         variables = subst (λ w. Each_hole Vars w) (sym shape) (arrow_variables met t R.variables);
-        formed = subst Formed (sym shape) (arrow_formed met mets t R.formed);
+        formed = subst Formed (sym shape) (arrow_formed met mets t mv R.formed);
         typed = ap erased shape ∙ arrow_typed met t (arrows (pattern_types types ps (q + pattern_numbers p)) (types at)) R.typed;
         here = R.here;
         kept = R.kept;
@@ -228,7 +237,7 @@ module _ (N : Names) (types : Sub) (home : ℕ → ℕ) (K : Kinds) (places : Ki
             subst (λ w. Takes N types s home (Sized N types s home e at) parts ps lo (q + pattern_numbers p) at hi w (with_pattern s p q (with_positions (λ d. position N types home K places lo at hi q p plain In E l2 (omega (arith, l3)) (own p q) o.sizes (own_stands In p q o k) d) G)))
                 (sym (arrow_back N types home K places lo at hi q p plain In E l2 (omega (arith, l3)) (own p q) o.sizes (own_stands In p q o k) met mets t may))
                 (R.rules s (with_pattern s p q (with_positions (λ d. position N types home K places lo at hi q p plain In E l2 (omega (arith, l3)) (own p q) o.sizes (own_stands In p q o k) d) G))
-                (entered_judged N types home K places lo at hi q p plain In Vars E l0 l2 l2' (omega (arith, l3)) parts among (own p q) o.sizes (own_stands In p q o k) parts_there s scope G judged own_nodes.0) own_nodes.1 a),
+                (entered_judged N types home K places lo at hi q p plain In Vars E l0 l2 l2' (omega (arith, l3)) parts among (own p q) o.sizes (own_stands In p q o k) parts_there (hole_as (λ v. ⊥) Any_variable (λ v i. tt) (own p q) o.variables) s scope G judged own_nodes.0) own_nodes.1 a),
           )
 
       -- ---- what is known behind the parameter
@@ -304,23 +313,49 @@ module _ (N : Names) (types : Sub) (home : ℕ → ℕ) (K : Kinds) (places : Ki
           by_own (inr (inr y)) = y
       unmet_behind n i (inr (inr x)) z = let w = named_there types home K places N p q plain (own p q) (Unknown n i) x in let y : Unknown n i ≡ Name w.0 = w.1 in cc
 
-      known_behind : (T : TypeScope) → Pattern_typed N places K types p q T → Known_names In Vars scope K types T → Known_names In' Vars (bound_scope N p (own p q) scope) K types (typed_with the_one p q T)
+      known_behind : (T : TypeScope) → Pattern_typed N places K types p q T → Known_names In Vars home scope K types T → Known_names In' Vars home (bound_scope N p (own p q) scope) K types (typed_with the_one p q T)
       known_behind T fits h = known_with N types K places In' Vars home In Vars (λ x i. inl i) (λ v i. i) p q T plain fits (own p q) parts_there scope T h
           (record { sizes = each_scoped (λ x. stands (own p q) x ≡ true) In' (λ x z. inr (inl z)) (own p q) 0 (own_stands In p q o k); variables = hole_as (λ v. ⊥) Vars (λ v i. absurd i) (own p q) o.variables; formed = o.formed }) o.typed (λ x n. inr (inr n))
 
+      no_value_here : (x : Free) → is_number (own p q) ≡ false → In' x → Is_value (value_name p) x → ⊥
+      no_value_here x e i v = no_value N types home K places lo at hi q p plain In Vars E l0 l2 l2' (omega (arith, l3)) parts among (own p q) o.sizes (own_stands In p q o k) x e i v
+
+      met_no_value : (x : Free) (r : Option ℕ) → Met_in lo hi x → Is_value r x → ⊥
+      met_no_value x (Some b) m v = subst (Met_in lo hi) v m
+      met_no_value x None m v = v
+
+      const_no_value : (x : Free) (r : Option ℕ) → Is_const x → Is_value r x → ⊥
+      const_no_value x (Some b) c v = subst Is_const v c
+      const_no_value x None c v = v
+
+      each_scoped2 : (met : List Free) (t : Size) → Each (Scoped (λ x. May_be met x × No_part_of x)) 0 t → Each (Scoped No_value) 0 t → Each (Scoped (λ x. May_be met x × No_value x)) 0 t
+      each_scoped2 met t a b = each_as (λ j d. Scoped (λ x. May_be met x × No_part_of x) j d × Scoped No_value j d) (Scoped (λ x. May_be met x × No_value x)) both t 0 (each_both (Scoped (λ x. May_be met x × No_part_of x)) (Scoped No_value) t 0 a b)
+        where
+          both : (j : ℕ) (d : Dim) → Scoped (λ x. May_be met x × No_part_of x) j d × Scoped No_value j d → Scoped (λ x. May_be met x × No_value x) j d
+          both j (At x) w = (w.0.0, w.1)
+          both j (Bound m i) w = w.0
+
       last_parameter : Rest no_pattern (q + pattern_numbers p) In' (bound_scope N p (own p q) scope) → Rest (pattern_and p no_pattern) q In scope
       unfolding function_size
-      last_parameter R = one_more no_pattern (sizes_in (is_met lo hi) r) (met_unknown lo hi In unmet r) refl may R
+      last_parameter R = one_more no_pattern (sizes_in (is_met lo hi) r) (met_unknown lo hi In unmet r) refl may (each_scoped2 (sizes_in (is_met lo hi) r) r may (each_scoped (Rest_in no_pattern In') No_value bare r 0 R.sizes)) R
           (λ s G judged here a. subst (λ w. Telling N types s home no_pattern q at many (bound (place (sizes_in (is_met lo hi) r)) (own p q)) (bound (place (sizes_in (is_met lo hi) r)) w) G) (sym L.result)
           (tells N types home K places lo at hi q p plain In Vars E l0 l2 l2' (omega (arith, l3)) parts among (own p q) o.sizes (own_stands In p q o k) (sizes_in (is_met lo hi) r) (met_unknown lo hi In unmet r) s scope G judged here (leave lo parts) left_as u (ap (sizes_in (is_met lo hi)) L.result) R.body_says.0 R.body_says.1 (a at (omega arith) l3 ∙ R.here)))
         where
+          bare : (x : Free) → Rest_in no_pattern In' x → No_value x
+          bare x (inl i, b) e v = no_value_here x e i v
+          bare x (inr i, b) e v = met_no_value x (value_name p) i v
+
           may : Each (Scoped (λ x. May_be (sizes_in (is_met lo hi) r) x × No_part_of x)) 0 r
           may = last_may N types home K places lo at hi q p plain In Vars E l0 l2 l2' (omega (arith, l3)) parts among (own p q) o.sizes (own_stands In p q o k) r R.sizes
 
       earlier_parameter : (p2 : FlatPattern) (ps : Patterns Ref BindId) → Rest (pattern_and p2 ps) (q + pattern_numbers p) In' (bound_scope N p (own p q) scope) → Rest (pattern_and p (pattern_and p2 ps)) q In scope
       unfolding function_size
-      earlier_parameter p2 ps R = one_more (pattern_and p2 ps) [] (none_met In) refl (each_scoped (λ d. (In' d ⊎ Is_const d) × No_part_of d) (λ x. May_be [] x × No_part_of x) may (size_from (pattern_and p2 ps) (q + pattern_numbers p)) 0 R.sizes) R (λ s G judged here a. tt)
+      earlier_parameter p2 ps R = one_more (pattern_and p2 ps) [] (none_met In) refl (each_scoped (λ d. (In' d ⊎ Is_const d) × No_part_of d) (λ x. May_be [] x × No_part_of x) may (size_from (pattern_and p2 ps) (q + pattern_numbers p)) 0 R.sizes) (each_scoped (λ d. (In' d ⊎ Is_const d) × No_part_of d) (λ x. May_be [] x × No_value x) (λ x w. ((may x w).0, bare x w)) (size_from (pattern_and p2 ps) (q + pattern_numbers p)) 0 R.sizes) R (λ s G judged here a. tt)
         where
+          bare : (x : Free) → (In' x ⊎ Is_const x) × No_part_of x → No_value x
+          bare x (inl i, b) e v = no_value_here x e i v
+          bare x (inr c, b) e v = const_no_value x (value_name p) c v
+
           may : (x : Free) → (In' x ⊎ Is_const x) × No_part_of x → May_be [] x × No_part_of x
           may x (inl i, bare) = (entered_may N types home K places lo at hi q p plain In Vars E l0 l2 l2' (omega (arith, l3)) parts among (own p q) o.sizes (own_stands In p q o k) [] x i bare, bare)
           may x (inr c, bare) = (inr (inr (inr (inl c))), bare)
@@ -330,7 +365,7 @@ module _ (N : Names) (types : Sub) (home : ℕ → ℕ) (K : Kinds) (places : Ki
       next_parameter (pattern_and p2 ps) R = earlier_parameter p2 ps R
 
     -- all parameters
-    pub all_rest : (ps : Patterns Ref BindId) (q : ℕ) (In : Free → Type 0) (scope : Scope) (T : TypeScope) → q + all_pattern_numbers ps ≡ at → lo < q → Plain_patterns types home K places ps q → Parameters_typed N places K types ps q T → All_fit N types home K places ps q → Unmet lo hi In → Lacks parts (takings N types home K places ps q) → ((b : ℕ) → is_among (all_part_names ps) b ≡ true → is_among parts b ≡ true) → Typed N places e at (all_typed_with the_one ps q T) K types → Known_names In Vars scope K types T
+    pub all_rest : (ps : Patterns Ref BindId) (q : ℕ) (In : Free → Type 0) (scope : Scope) (T : TypeScope) → q + all_pattern_numbers ps ≡ at → lo < q → Plain_patterns types home K places ps q → Parameters_typed N places K types ps q T → All_fit N types home K places ps q → Unmet lo hi In → Lacks parts (takings N types home K places ps q) → ((b : ℕ) → is_among (all_part_names ps) b ≡ true → is_among parts b ≡ true) → Typed N places e at (all_typed_with the_one ps q T) K types → Known_names In Vars home scope K types T
         → Elsewhere N types home q hi In → Elsewhere N types home lo (1 + lo) In → all_bound N types home K places ps q scope ≡ final → Rest ps q In scope
     all_rest no_pattern q In scope T m l plain fits parts_there unmet lacks among t known E E0 z = subst (λ n. Rest no_pattern n In scope) (let y : at ≡ q = omega (arith, m) in y) (last_rest In scope T t known (elsewhere_narrower N types home q hi at hi In (omega (arith, m)) (omega arith) E) z (omega (arith, m, l)))
     all_rest (pattern_and p ps) q In scope T m l (plain, f, k, rest) fits parts_there unmet lacks among t known E E0 z =

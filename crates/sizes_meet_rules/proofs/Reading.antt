@@ -93,7 +93,7 @@ module _ (lo at : ℕ) (φ : Opened) where
     mutual
       unfolding read all_read replaced all_replaced Each Each_all Data All_data
 
-      read_still : (p : Size) → Data p → Each Opens 0 p → Each (Scoped Is_settled) 0 (read σ (replaced (dim_in φ) 0 p)) → read τ (replaced (dim_in φ) 0 p) ≡ read σ (replaced (dim_in φ) 0 p)
+      pub read_still : (p : Size) → Data p → Each Opens 0 p → Each (Scoped Is_settled) 0 (read σ (replaced (dim_in φ) 0 p)) → read τ (replaced (dim_in φ) 0 p) ≡ read σ (replaced (dim_in φ) 0 p)
       read_still (Hole v) d o h = refl
       read_still (Open n v u) d o h = absurd d
       read_still (Level l p) d o h =

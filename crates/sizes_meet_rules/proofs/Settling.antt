@@ -89,11 +89,11 @@ mutual
   all_none_collected no_size j ds h = refl
   all_none_collected (size_and t ts) j ds h = ap (all_collected is_slot ts) (none_collected t j ds h.0) ∙ all_none_collected ts j ds h.1
 
-no_slots : (t : Size) (j : ℕ) → Each (Scoped Is_settled) j t → sizes_in is_slot t ≡ []
+pub no_slots : (t : Size) (j : ℕ) → Each (Scoped Is_settled) j t → sizes_in is_slot t ≡ []
 unfolding sizes_in
 no_slots t j h = none_collected t j [] h
 
-abbrev Leaves : (ℕ → Dim → Dim) → Type 0
+abbrev pub Leaves : (ℕ → Dim → Dim) → Type 0
 Leaves outer = (i : ℕ) (d : Dim) → outer i d ≡ d
 
 module _ (outer : ℕ → Dim → Dim) (l : Leaves outer) where
@@ -111,10 +111,10 @@ module _ (outer : ℕ → Dim → Dim) (l : Leaves outer) where
     all_every no_size j = tt
     all_every (size_and t ts) j = (every t j, all_every ts j)
 
-  untouched : (t : Size) (j : ℕ) → replaced outer j t ≡ t
+  pub untouched : (t : Size) (j : ℕ) → replaced outer j t ≡ t
   untouched t j = not_replaced outer t j (every t j)
 
-leaves_behind : (k j : ℕ) (ds : List Free) (outer : ℕ → Dim → Dim) → ds ≡ [] → Leaves outer → Leaves (behind k j ds outer)
+pub leaves_behind : (k j : ℕ) (ds : List Free) (outer : ℕ → Dim → Dim) → ds ≡ [] → Leaves outer → Leaves (behind k j ds outer)
 leaves_behind k j ds outer e l i d = ap (λ xs. behind k j xs outer i d) e ∙ ap (chosen_again k [] (i - suc j)) (l i d) ∙ here (i - suc j) d
   where
     by_less : (m a : ℕ) (b : Bool) → Bound m (cond b a (0 + a)) ≡ Bound m a
@@ -144,7 +144,7 @@ module _ (maker : ℕ → ℕ) where
   mutual
     unfolding Each Each_all
 
-    depth : (t : Size) (j i : ℕ) → Each (Scoped Is_settled) j t → Each (λ i d. renaming (unknown_slot maker) i d ≡ d) i t
+    pub depth : (t : Size) (j i : ℕ) → Each (Scoped Is_settled) j t → Each (λ i d. renaming (unknown_slot maker) i d ≡ d) i t
     depth (Hole v) j i h = tt
     depth (Open m v u) j i h = tt
     depth (Level d t) j i h = (not_renamed j i d h.0, depth t j i h.1)

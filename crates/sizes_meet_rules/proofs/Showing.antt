@@ -21,6 +21,7 @@ use Rattle.fut_sizes.specs.Steps.{State, Done}
 use Rattle.sizes_meet_rules.specs.Known.{Known_names, Elsewhere}
 use Rattle.sizes_meet_rules.specs.Plain.{Plain_term}
 use Rattle.sizes_meet_rules.proofs.Operating.{Size_written, Sizes_written, All_sizes_written, number_is}
+use Rattle.sizes_meet_rules.proofs.Naming.{number_name}
 use Rattle.sizes_meet_rules.proofs.Meeting.{then_ok, Meets, Part_meets, finished_meets}
 
 pub own_some : (o : Operation Ref BindId) → 1 ≤ own_numbers o
@@ -45,29 +46,29 @@ bound_ran N at p t scope k e =
 
 module _ (N : Names) (types : Sub) (home : ℕ → ℕ) (K : Kinds) (places : Kind) where
   abbrev pub Law_of : FlatTerm → Type 1
-  Law_of e = (In : Free → Type 0) (Vars : Variable → Type 0) (scope : Scope) (T : TypeScope) (lo : ℕ) (st : State) (d : Done Part) → Plain_term types home K places N e lo → Typed N places e lo T K types → Known_names In Vars scope K types T
+  Law_of e = (In : Free → Type 0) (Vars : Variable → Type 0) (scope : Scope) (T : TypeScope) (lo : ℕ) (st : State) (d : Done Part) → Plain_term types home K places N e lo → Typed N places e lo T K types → Known_names In Vars home scope K types T
       → Elsewhere N types home lo (lo + numbers e) In → sized N types e [] lo scope st ≡ Ok d → Part_meets N types home In Vars scope e lo (lo + numbers e) st d.result d.state
 
   -- by itself
-  pub alone : (e : FlatTerm) → Law_of e → (In : Free → Type 0) (Vars : Variable → Type 0) (scope : Scope) (T : TypeScope) (lo : ℕ) (st : State) (d : Done Part) (u : Done Size) → Plain_term types home K places N e lo → Typed N places e lo T K types → Known_names In Vars scope K types T
+  pub alone : (e : FlatTerm) → Law_of e → (In : Free → Type 0) (Vars : Variable → Type 0) (scope : Scope) (T : TypeScope) (lo : ℕ) (st : State) (d : Done Part) (u : Done Size) → Plain_term types home K places N e lo → Typed N places e lo T K types → Known_names In Vars home scope K types T
       → Elsewhere N types home lo (lo + numbers e) In → sized N types e [] lo scope st ≡ Ok d → finished N types lo d.result d.state ≡ Ok u → Meets N types home In Vars scope e lo (lo + numbers e) st u.result u.state
   alone e law In Vars scope T lo st d u p t k E q f = finished_meets N types home In Vars scope e lo (lo + numbers e) st d.result d.state u (let l = numbers_some e in omega (arith, l)) E (law In Vars scope T lo st d p t k E q) f
 
 -- written sizes are names of numbers in scope
-module _ (N : Names) (types : Sub) (K : Kinds) (places : Kind) (In In' : Free → Type 0) (Vars : Variable → Type 0) (wider : (d : Free) → In d → In' d) where
-  size_written : (x : Size_term Ref BindId) (scope : Scope) (T : TypeScope) → Known_names In Vars scope K types T → IsSize T K types x → Size_written In' x
-  size_written (Size_use (ref.Bound b)) scope T known d = let w = known b.0 i64_ty d in wider (Name b.0) (w.number (number_is w.size w.says.formed w.typed))
+module _ (N : Names) (types : Sub) (home : ℕ → ℕ) (K : Kinds) (places : Kind) (In In' : Free → Type 0) (Vars : Variable → Type 0) (wider : (d : Free) → In d → In' d) where
+  size_written : (x : Size_term Ref BindId) (scope : Scope) (T : TypeScope) → Known_names In Vars home scope K types T → IsSize T K types x → Size_written In' x
+  size_written (Size_use (ref.Bound b)) scope T known d = let w = known b.0 i64_ty d in wider (Name b.0) (w.number (number_is w.size w.says.formed (number_name In Vars types home scope b.0 w).1))
   size_written x scope T known d = tt
 
   mutual
-    pub sizes_written : (x : FlatType) (scope : Scope) (T : TypeScope) (u : Ty) → Known_names In Vars scope K types T → Denotes N places K types x T u → Sizes_written In' x
+    pub sizes_written : (x : FlatType) (scope : Scope) (T : TypeScope) (u : Ty) → Known_names In Vars home scope K types T → Denotes N places K types x T u → Sizes_written In' x
     sizes_written (Array_type s x) scope T u known d = (size_written s scope T known d.0, sizes_written x scope T d.1.0 known d.1.1)
     sizes_written (Unique_type x) scope T u known d = sizes_written x scope T u known d
     sizes_written (Tuple_type xs) scope T u known d = all_sizes_written xs scope T d.0 known d.1
     sizes_written (Record_type fs xs) scope T u known d = all_sizes_written xs scope T d.0 known d.1
     sizes_written x scope T u known d = tt
 
-    all_sizes_written : (xs : Type_terms Ref BindId) (scope : Scope) (T : TypeScope) (us : Tys) → Known_names In Vars scope K types T → All_denote N places K types xs T us → All_sizes_written In' xs
+    all_sizes_written : (xs : Type_terms Ref BindId) (scope : Scope) (T : TypeScope) (us : Tys) → Known_names In Vars home scope K types T → All_denote N places K types xs T us → All_sizes_written In' xs
     all_sizes_written no_type scope T us known d = tt
     all_sizes_written (type_and x xs) scope T none known d = absurd d
     all_sizes_written (type_and x xs) scope T (more u us) known d = (sizes_written x scope T u known d.0, all_sizes_written xs scope T us known d.1)

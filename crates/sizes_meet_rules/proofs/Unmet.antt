@@ -18,13 +18,12 @@ use Rattle.fut_sizes.specs.Primitives.{scalar_size, sized_type, prim_size}
 use Rattle.fut_sizes.specs.Programs.{no_state, sizing}
 use Rattle.fut_sizes.specs.Rules.{Is_value}
 use Rattle.fut_sizes.specs.Scopes.{Scope, nothing, with_name, type_of, type_in, instance, instances, used, taken, all_taken, fields_taken, bound_by}
-use Rattle.fut_sizes.specs.Scoping.{Context, with_entered}
+use Rattle.fut_sizes.specs.Scoping.{Context, nothing_known, with_entered}
 use Rattle.sized_types.specs.Sizes.{Const, Name, At, Bound, Size, Level, Fun, erased, all_erased, is_free, is_dim, levels, all_levels, replaced, all_replaced, has, some_has, takes, some_takes}
 use Rattle.sized_types.specs.Standing.{stands, some_stands, is_known, all_known, gives_chosen, all_chosen}
 use Rattle.fut_sizes.specs.Levels.{levels_within, all_levels_within}
 use Rattle.fut_sizes.specs.Sizing.{finished, is_open, some_open, matched, lacking, all_lacking, differing, all_differing, turns_from, pattern_noted, patterns_noted, fields_noted, sized, all_sized, turns_sized, condition_sized, right_sized, inner_sized}
 use Rattle.fut_sizes.specs.WrittenSizes.{part_of, changed_part, has_sizes, all_have_sizes, fields_have_sizes, with_sizes, all_with_sizes, fields_with_sizes, ascribed, coerced, coercion, parameter_size, declared}
-use Rattle.sizes_meet_rules.specs.Claims.{nothing_known}
 
 abbrev i64 : Size
 i64 = scalar_size (scalar.Int int.I64)

@@ -1,7 +1,9 @@
--- The terms of which the law speaks: names, operations, functions of data, lets of data and of functions, branches, loops and applications of names to one argument of data. A node that binds a name is the home of that name.
-use Rattle.std.specs.Prelude.{◌≡◌, ◌⊎◌, ℕ, ◌+◌, ◌^◌, ◌<◌, Bool, false, List, [], None}
+-- The terms of which the law speaks: names, operations, functions of data, lets of data and of functions, branches, loops and
+-- applications of names to all of their arguments, which are data. A node that binds a name is the home of that name.
+use Rattle.std.specs.Prelude.{◌≡◌, ◌⊎◌, ℕ, ◌+◌, ◌^◌, ◌<◌, Bool, true, false, List, [], ◌∷◌, None}
 use Rattle.fut_scalar.specs.declared.place.BindId.{BindId}
 use Rattle.fut_scalar.specs.declared.scalar.ScalarType.{ScalarType}
+use Rattle.fut_scalar.specs.declared.scalar.ScalarType.TheVariants as sort
 use Rattle.fut_flat.specs.declared.prim.Ref.{Ref}
 use Rattle.fut_flat.specs.declared.prim.Ref.TheVariants as ref
 use Rattle.fut_flat.specs.Numbers.{pattern_numbers, all_pattern_numbers, own_numbers, numbers, turn_numbers}
@@ -12,6 +14,7 @@ use Rattle.fut_types.specs.declared.Head.TheVariants as head
 use Rattle.fut_types.specs.Types.{Ty, Var, Made, Tys, none, more, Sub, Kinds, HasKind, scalar_ty}
 use Rattle.fut_typing.specs.Names.{Names, AreNames}
 use Rattle.fut_typing.specs.Primitives.{i64_ty}
+use Rattle.fut_typing.specs.Program.{Defined}
 use Rattle.fut_sizes.specs.Compositions.{composition}
 
 -- a type without type variables, made as the language makes types: an array of one type, a function of two
@@ -69,11 +72,6 @@ Plain_operation N (Ascribe e) t ts = Unit {0}
 Plain_operation N (Coerce e) t ts = Written_data e
 Plain_operation N (Declared e) t ts = Written_data e
 
--- a name
-abbrev pub Is_name : FlatTerm → Type 0
-Is_name (Use (ref.Bound b) at k) = Unit {0}
-Is_name e = ⊥
-
 -- a function under a name
 abbrev pub Is_lambda : FlatTerm → Type 0
 Is_lambda (Lambda (pattern_and p ps) e) = Unit {0}
@@ -83,9 +81,14 @@ abbrev pub Is_bound : FlatPattern → Type 0
 Is_bound (Bound_pattern b) = Unit {0}
 Is_bound p = ⊥
 
--- an argument that is a name or a literal is of type i64, and the literal is one that an i64 holds
+-- the type of a whole number
+abbrev pub number_ty : Ty → Bool
+number_ty (Made (head.Scalar (sort.Int i)) ts) = true
+number_ty t = false
+
+-- an argument that is a literal is of type i64, which holds it, and a name that is a whole number is of that type too
 abbrev pub Plain_argument : FlatTerm → Ty → Type 0
-Plain_argument (Use r at k) t = t ≡ i64_ty
+Plain_argument (Use r at k) t = (t ≡ i64_ty) ⊎ (number_ty t ≡ false)
 Plain_argument (Strict (Integer c i) mark no_term) t = (t ≡ i64_ty) × (c < 2 ^ 63)
 Plain_argument e t = Unit {0}
 
@@ -108,10 +111,12 @@ module _ (types : Sub) (home : ℕ → ℕ) (K : Kinds) (places : Kind) where
   Plain_patterns no_pattern q = Unit {0}
   Plain_patterns (pattern_and p ps) q = Plain_pattern p q × Formed_type (types q) × HasKind K places (types q) × Plain_patterns ps (q + pattern_numbers p)
 
-  -- a let that is not written as a function and names no sizes
-  abbrev pub Plain_let : List BindId → List (Parameter BindId) → Bool → FlatPattern → ℕ → Type 0
-  Plain_let [] [] false p q = Plain_pattern p q
-  Plain_let sizes parameters is_function p q = ⊥
+  -- a let that names no sizes; one that is written as a function has neither size nor type parameters, and its type has no type
+  -- variables
+  abbrev pub Plain_let : List BindId → List (Parameter BindId) → Bool → FlatPattern → FlatTerm → ℕ → Type 0
+  Plain_let [] [] false p v q = Plain_pattern p q
+  Plain_let [] [] true p v q = Plain_pattern p q × Is_bound p × Is_lambda v × Formed_type (types q)
+  Plain_let sizes parameters is_function p v q = ⊥
 
   -- a loop that names no sizes
   abbrev pub Plain_loop : List BindId → FlatPattern → ℕ → Type 0
@@ -121,17 +126,23 @@ module _ (types : Sub) (home : ℕ → ℕ) (K : Kinds) (places : Kind) where
   module _ (N : Names) where
     abbrev mutual
       pub Plain_term : FlatTerm → ℕ → Type 0
-      Plain_term (Use (ref.Bound b) at k) lo = Unit {0}
+      Plain_term (Use (ref.Bound b) at k) lo = types lo ≡ types (home b.0)
       Plain_term (Strict o mark ts) lo = Plain_operation N o (types lo) ts × Plain_terms ts (lo + own_numbers o)
       Plain_term (Lambda (pattern_and p ps) e) lo = Plain_patterns (pattern_and p ps) (1 + lo) × Plain_term e (1 + lo + all_pattern_numbers (pattern_and p ps))
-      -- a function by its name, applied to one argument: both that and the result are data
-      Plain_term (Apply f e) lo = Is_name f × Plain_argument e (types (1 + lo + numbers f)) × HasKind K places (types (1 + lo + numbers f)) × HasKind K places (types lo) × Plain_term e (1 + lo + numbers f)
-      Plain_term (Let b v e) lo = Plain_let b.sizes b.parameters b.is_function b.pattern (1 + lo) × (composition b e ≡ None)
+      -- a function by its name, applied to all of its arguments: these and the result are data
+      Plain_term (Apply f e) lo = HasKind K places (types lo) × (Plain_argument e (types (1 + lo + numbers f)) × HasKind K places (types (1 + lo + numbers f)) × Plain_spine f (1 + lo) × Plain_term e (1 + lo + numbers f))
+      Plain_term (Let b v e) lo = Plain_let b.sizes b.parameters b.is_function b.pattern v (1 + lo) × (composition b e ≡ None)
           × (HasKind K places (types (1 + lo + pattern_numbers b.pattern)) ⊎ (Is_lambda v × Is_bound b.pattern)) × Plain_term v (1 + lo + pattern_numbers b.pattern) × Plain_term e (1 + lo + pattern_numbers b.pattern + numbers v)
       Plain_term (If c a b) lo = Plain_term c (1 + lo) × Plain_term a (1 + lo + numbers c) × Plain_term b (1 + lo + numbers c + numbers a)
       Plain_term (Loop mark sizes p first turns body) lo = Plain_loop sizes p (1 + lo) × Plain_term first (1 + lo + pattern_numbers p)
           × Plain_turns turns (1 + lo + pattern_numbers p + numbers first) × Plain_term body (1 + lo + pattern_numbers p + numbers first + turn_numbers turns)
       Plain_term e lo = ⊥
+
+      -- a name, applied to arguments of data
+      pub Plain_spine : FlatTerm → ℕ → Type 0
+      Plain_spine (Use (ref.Bound b) at k) lo = types lo ≡ types (home b.0)
+      Plain_spine (Apply f e) lo = Plain_argument e (types (1 + lo + numbers f)) × HasKind K places (types (1 + lo + numbers f)) × Plain_spine f (1 + lo) × Plain_term e (1 + lo + numbers f)
+      Plain_spine e lo = ⊥
 
       pub Plain_terms : Terms Ref BindId → ℕ → Type 0
       Plain_terms no_term lo = Unit {0}
@@ -141,3 +152,12 @@ module _ (types : Sub) (home : ℕ → ℕ) (K : Kinds) (places : Kind) where
       Plain_turns (Counted i m) lo = (home i.0 ≡ lo) × Is_scalar (types lo) × Plain_term m (1 + lo)
       Plain_turns (Over p e) lo = Plain_pattern p lo × Plain_term e (lo + pattern_numbers p)
       Plain_turns (While c) lo = Plain_term c lo
+
+    -- a definition of a function, without size and type parameters, whose type has no type variables
+    abbrev pub Plain_definition : FlatPattern → List (Parameter BindId) → FlatTerm → ℕ → Type 0
+    Plain_definition (Bound_pattern b) [] v lo = (home b.0 ≡ lo) × Is_lambda v × Formed_type (types lo) × Plain_term v (lo + 1)
+    Plain_definition p ps v lo = ⊥
+
+    abbrev pub Plain_definitions : List Defined → ℕ → Type 0
+    Plain_definitions [] lo = Unit {0}
+    Plain_definitions (d ∷ ds) lo = Plain_definition d.name d.parameters d.value lo × Plain_definitions ds (lo + (pattern_numbers d.name + numbers d.value))

@@ -1,9 +1,15 @@
-// The law of what the pass over sizes gives.
-ghost use Rattle.sizes_meet_rules.specs.Claims.{SizingMeetsRules};
+// The laws of what the pass over sizes gives.
+ghost use Rattle.sizes_meet_rules.specs.Claims.{SizingMeetsRules, ProgramSizingMeetsRules};
 
 /// The sized types that the pass gives to the nodes of a term meet the rules of a sizing, and without its sizes that of the term
-/// is its type: for terms of names, operations, functions of data, lets of data, branches, loops and applications of names to one
-/// argument of data.
+/// is its type: for terms of names, operations, functions of data, lets of data, local functions without type variables,
+/// branches, loops and applications of names to all of their arguments, which are data.
 pub fn sizing_meets_rules()
     ensures { SizingMeetsRules }
+{}
+
+/// So do those that it gives to the nodes of a program, whose definitions are functions of such terms without size and type
+/// parameters; and without its sizes that of each definition is its type.
+pub fn program_sizing_meets_rules()
+    ensures { ProgramSizingMeetsRules }
 {}

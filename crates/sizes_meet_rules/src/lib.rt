@@ -1,12 +1,13 @@
 //! What the pass over sizes gives meets the local rules of a sizing.
 //!
-//! `fut_sizes` has both: a function by structure, which gives each node of a term a sized type or the first refusal, and one rule
-//! a form, which a sizing is judged by; what is proved of values (`sized_meaning`) hangs on the rules alone. Here the one is
-//! joined to the other, for the terms of `specs/Plain.antt`: names, all operations, functions of data, lets of data, loops,
-//! branches, and a name's function applied to one argument, where that and the result are data; patterns are names and parts of
-//! tuples and records, with written types or without. Of other terms nothing is claimed yet: other applications (of more
-//! arguments, of functions to functions, to a name or a literal that is no i64), general names, patterns that name sizes,
-//! parameters of type variables, written types of functions.
+//! `fut_sizes` has both: a function by structure, which gives each node of a term a sized type or the first refusal, and one rule a
+//! form, which a sizing is judged by; what is proved of values (`sized_meaning`) hangs on the rules alone. Here the one is joined to
+//! the other, for the terms of `specs/Plain.antt`: names, all operations, functions of data, lets of data, local functions without
+//! type variables, loops, branches, and a name's function applied to all of its arguments, where these and the result are data;
+//! patterns are names and parts of tuples and records, with written types or without; and for programs whose definitions are
+//! functions of such terms. Of others nothing is claimed yet: other applications (to fewer arguments, to functions, of primitives, to
+//! a literal or the name of a whole number that is no i64), general names with type variables, size parameters and patterns that name
+//! sizes, parameters of type variables, written types of functions, definitions that are no functions.
 //! `proofs/Unmet.antt` has what a rule asks and the pass does not give.
 //!
 //! `specs/Known.antt` says what is known of the names in scope. The proof goes by structure (`proofs/Walking.antt`): of each term it
@@ -15,9 +16,11 @@
 //! function's arrows bind what its parameters choose and what its body meets (`proofs/Listing.antt`, `proofs/Arrows.antt`). A loop is
 //! sized until a turn keeps all that is kept, which comes before its levels are used up (`proofs/Turning.antt`,
 //! `proofs/Looping.antt`). What is found of an argument reads as the argument (`proofs/Reading.antt`), and what stays open is an
-//! unknown of the application's node (`proofs/Applying.antt`).
+//! unknown of the application's node (`proofs/Applying.antt`). All arguments of a function are matched at the end
+//! (`proofs/Chains.antt`); then each position of its arrows stands for one size (`proofs/Frames.antt`), and all nodes are noted
+//! (`proofs/Noting.antt`, `proofs/Spines.antt`). Definitions stand in a row (`proofs/Defining.antt`).
 #![tactic(auto)]
 
 mod laws;
 
-pub use laws::sizing_meets_rules;
+pub use laws::{program_sizing_meets_rules, sizing_meets_rules};
