@@ -1,0 +1,5 @@
+pub mod Stands
+pub mod Finding
+pub mod Namings
+mod Currying
+mod Openings
