@@ -1,6 +1,6 @@
 -- What a portfolio gives in each scenario, how many lose more than a limit, and the loss that all but the worst few keep to.
 -- Positions are cents and moves basis points, so all is exact; no scenario waits for another, and none need be sorted.
-def main (limit: i64) (few: i64) (positions: []i64) (scenarios: [][]i64): ([]i64, i64, i64) =
+def main [n] [m] (limit: i64) (few: i64) (positions: [m]i64) (scenarios: [n][m]i64): ([n]i64, i64, i64) =
   let results = map (\moves -> i64.sum (map2 (*) positions moves) / 10000) scenarios
   let over = i64.sum (map (\result -> i64.bool (-result > limit)) results)
   let worse (i: i64) (j: i64): bool = results[j] < results[i] || (results[j] == results[i] && j < i)

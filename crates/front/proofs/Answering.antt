@@ -16,7 +16,7 @@ use Rattle.typing_laws.proofs.NumberingPrograms.{typing_is_one}
 use Rattle.elab_scopes.specs.Names.{Refusal}
 use Rattle.elab_scopes.specs.Programs.{FlatProgram, resolve_program}
 use Rattle.module_elab.specs.declared.prelude.TheConstants.{PRELUDE}
-use Rattle.front.specs.Acceptance.{IsAcceptable, IsMisuse, IsParsed, IsPrelude, IsResolved, IsUntyped, Resolves, Unaccepted, Unspelled, definitions_of, prelude_file}
+use Rattle.front.specs.Acceptance.{IsAcceptable, IsBehindTypes, IsParsed, IsPrelude, IsResolved, IsUntyped, Resolves, Unaccepted, Unspelled, definitions_of, prelude_file}
 use Rattle.front.specs.declared.refusals.NameErr.TheVariants as names
 use Rattle.typed_programs.specs.declared.typed.TypeErr.TheVariants as types
 use Rattle.front.specs.declared.refusals.Refused.{Refused}
@@ -69,7 +69,7 @@ module _ (tokens : List Token) (flat : FlatProgram) (sure : IsAcceptable tokens 
       let typing = typing_is_one sure.typed.0 N sure.typed.1 u.lacks.1 (definitions_of flat) sure.typed.2.0 sure.typed.2.1 in
       excludes N u.lacks.1 (definitions_of flat) typing.0 typing.1 (subst (λ f. Lacks N (definitions_of f)) (same_ok same) u.lacks.2)
 
-  pub refuted : (refused : Refused) → Unaccepted tokens refused → IsMisuse refused
+  pub refuted : (refused : Refused) → Unaccepted tokens refused → IsBehindTypes refused
   refuted (why.Parse err) u = spelled err u
   refuted (why.NotBuilt at) u = let both = sym sure.resolved.spelled.built ∙ u.unbuilt in absurd cc
   refuted (why.Names (names.Unbound name at)) u = named _ u
@@ -79,5 +79,6 @@ module _ (tokens : List Token) (flat : FlatProgram) (sure : IsAcceptable tokens 
   refuted (why.Types (types.FunctionPlace at)) u = typed FunctionPlace (λ N are ds types typing lacks. place_or_typing N ds lacks types typing) u
   refuted (why.Types types.Memory) u = u
   refuted (why.Types (types.Ambiguous at)) u = typed Ambiguous typing_or_ambiguous u
+  refuted (why.Misfit err) u = tt
   refuted (why.Misused err) u = tt
   refuted why.Memory u = u

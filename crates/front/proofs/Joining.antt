@@ -12,8 +12,11 @@ use Rattle.fut_typing.specs.Answers.{NoType, FunctionPlace, Ambiguous}
 use Rattle.elab_scopes.specs.Names.{Refusal}
 use Rattle.elab_scopes.specs.Programs.{FlatProgram, resolve_program}
 use Rattle.module_elab.specs.Elaborated.{definition_of, program_of as flat_of}
-use Rattle.type_infer.specs.Inferring.{Has_typing, Infers}
+use Rattle.type_infer.specs.Inferring.{Has_typing, Infers, Told_by}
 use Rattle.type_scopes.specs.declared.Inference.{Inference}
+use Rattle.sized_programs.specs.Sizings.{Has_sizing}
+use Rattle.sized_programs.specs.declared.checking.Sizing.{Sizing}
+use Rattle.sized_programs.specs.declared.misfit.Misfit.TheVariants as misfit
 use Rattle.typed_programs.specs.Known.{Knows}
 use Rattle.typed_programs.specs.Mistyped.{Some_numbering}
 use Rattle.typed_programs.specs.declared.typed.Accepted.{Accepted}
@@ -21,8 +24,8 @@ use Rattle.typed_programs.specs.declared.typed.TypeErr.TheVariants as types
 use Rattle.typed_programs.proofs.Numbered.{numbered}
 use Rattle.unique_programs.specs.Rules.{Breaks_none}
 use Rattle.unique_programs.specs.declared.misuse.Misuse.TheVariants as misuse
-use Rattle.front.specs.Acceptance.{IsBuiltProgram, IsParsed, IsPrelude, IsResolved, IsUntyped, Resolves, Typable, definitions_of, defined_of}
-use Rattle.front.specs.Stages.{Is_accepted, Explains, IsMisnamed, Misnames, Overwrites, Untyped}
+use Rattle.front.specs.Acceptance.{IsBuiltProgram, IsParsed, IsPrelude, IsResolved, IsUntyped, Resolves, Sizable, Typable, definitions_of, defined_of}
+use Rattle.front.specs.Stages.{Is_accepted, Explains, IsMisnamed, Misnames, Overwrites, Unsized, Untyped}
 use Rattle.front.specs.declared.refusals.NameErr.TheVariants as names
 use Rattle.front.specs.declared.refusals.Refused.{Refused}
 use Rattle.front.specs.declared.refusals.Refused.TheVariants as why
@@ -41,6 +44,11 @@ same_definitions flat = all_same flat.definitions.now
 typable : (ds : List Defined) (i : Inference) → Infers ds i → Some_numbering (λ N. Typable N ds)
 typable ds i infers = let has = numbered (Has_typing ds i) i infers.typing in (has.0, has.1, (has.2.types, has.2.typing))
 
+-- ---- sizes
+
+sizable : (ds : List Defined) (sizing : Sizing) → Some_numbering (Has_sizing ds sizing) → Some_numbering (λ N. Sizable N ds)
+sizable ds sizing h = (h.0, h.1, (h.2.sizes, h.2.sized))
+
 -- ---- names
 
 -- of the prelude and a program names are refused so
@@ -51,6 +59,7 @@ refused_so prelude program ps (why.Names (names.Unbound name at)) is same m = re
 refused_so prelude program ps (why.Names (names.Twice name at)) is same m = record { prelude = prelude; is_prelude = is; resolved = ap resolve_program (sym same) ∙ m }
 refused_so prelude program ps (why.Names (names.NoMember name at)) is same m = record { prelude = prelude; is_prelude = is; resolved = ap resolve_program (sym same) ∙ m }
 refused_so prelude program ps (why.Types err) is same m = m
+refused_so prelude program ps (why.Misfit err) is same m = m
 refused_so prelude program ps (why.Misused err) is same m = m
 refused_so prelude program ps why.Memory is same m = tt
 
@@ -63,14 +72,17 @@ module _ (tokens : List Token) (program : Program) (spelled : IsBuiltProgram tok
   here : (flat : Flat) (a : Accepted) → Resolves program (Ok (flat_of flat)) → Knows flat a → IsResolved tokens (Ok (flat_of a.flat))
   here flat a resolves knows = named (Ok (flat_of a.flat)) (subst (λ f. Resolves program (Ok (flat_of f))) (sym knows.is) resolves)
 
-  pub accepted : (flat : Flat) (a : Accepted) → Resolves program (Ok (flat_of flat)) → Knows flat a → Some_numbering (Breaks_none (typing_of a.flat)) → Is_accepted tokens a
-  accepted flat a resolves knows unbroken = record {
+  pub accepted : (flat : Flat) (a : Accepted) (sizing : Sizing) → Resolves program (Ok (flat_of flat)) → Knows flat a → Told_by (Has_sizing (typing_of a.flat) sizing) a.inference → Some_numbering (Has_sizing (typing_of a.flat) sizing)
+      → Some_numbering (Breaks_none (typing_of a.flat)) → Is_accepted tokens a sizing
+  accepted flat a sizing resolves knows told sized unbroken = record {
     acceptable = record {
       resolved = here flat a resolves knows;
       typed = subst (λ ds. Some_numbering (λ N. Typable N ds)) (sym (same_definitions a.flat)) (typable (typing_of a.flat) a.inference knows.known.infers);
+      sized = subst (λ ds. Some_numbering (λ N. Sizable N ds)) (sym (same_definitions a.flat)) (sizable (typing_of a.flat) sizing sized);
       unbroken = subst (λ ds. Some_numbering (Breaks_none ds)) (sym (same_definitions a.flat)) unbroken;
     };
     known = knows.known;
+    sized = told;
   }
 
   -- names are refused so
@@ -81,6 +93,7 @@ module _ (tokens : List Token) (program : Program) (spelled : IsBuiltProgram tok
   misnamed (why.Names (names.Twice name at)) m = named _ m
   misnamed (why.Names (names.NoMember name at)) m = named _ m
   misnamed (why.Types err) m = absurd m
+  misnamed (why.Misfit err) m = absurd m
   misnamed (why.Misused err) m = absurd m
   misnamed why.Memory m = tt
 
@@ -100,26 +113,42 @@ module _ (tokens : List Token) (program : Program) (spelled : IsBuiltProgram tok
   mistyped flat (why.Types (types.FunctionPlace at)) resolves m = untyped FunctionPlace flat resolves m
   mistyped flat (why.Types (types.Ambiguous at)) resolves m = untyped Ambiguous flat resolves m
   mistyped flat (why.Types types.Memory) resolves m = absurd m
+  mistyped flat (why.Misfit err) resolves m = absurd m
   mistyped flat (why.Misused err) resolves m = absurd m
   mistyped flat why.Memory resolves m = tt
 
+  -- sizes are refused so
+  pub unsized : (flat : Flat) (a : Accepted) (refused : Refused) → Resolves program (Ok (flat_of flat)) → Knows flat a → Unsized a.flat refused → Explains tokens refused
+  unsized flat a (why.Parse err) resolves knows m = absurd m
+  unsized flat a (why.NotBuilt at) resolves knows m = absurd m
+  unsized flat a (why.Names err) resolves knows m = absurd m
+  unsized flat a (why.Types err) resolves knows m = absurd m
+  unsized flat a (why.Misfit (misfit.SizesDiffer left right at)) resolves knows m = record { flat = a.flat; resolved = here flat a resolves knows; misfits = m }
+  unsized flat a (why.Misfit (misfit.Escapes at)) resolves knows m = record { flat = a.flat; resolved = here flat a resolves knows; misfits = m }
+  unsized flat a (why.Misfit (misfit.Irregular at)) resolves knows m = record { flat = a.flat; resolved = here flat a resolves knows; misfits = m }
+  unsized flat a (why.Misfit misfit.Memory) resolves knows m = absurd m
+  unsized flat a (why.Misused err) resolves knows m = absurd m
+  unsized flat a why.Memory resolves knows m = tt
+
   -- a rule of aliases and consumption is broken
-  pub misused : (flat : Flat) (a : Accepted) (refused : Refused) → Resolves program (Ok (flat_of flat)) → Knows flat a → Overwrites a.flat refused → Explains tokens refused
-  misused flat a (why.Parse err) resolves knows m = absurd m
-  misused flat a (why.NotBuilt at) resolves knows m = absurd m
-  misused flat a (why.Names err) resolves knows m = absurd m
-  misused flat a (why.Types err) resolves knows m = absurd m
-  misused flat a (why.Misused (misuse.Consumed name at used)) resolves knows m = record { flat = a.flat; resolved = here flat a resolves knows; breaks = m }
-  misused flat a (why.Misused (misuse.NotConsumable name at)) resolves knows m = record { flat = a.flat; resolved = here flat a resolves knows; breaks = m }
-  misused flat a (why.Misused (misuse.Captured name at)) resolves knows m = record { flat = a.flat; resolved = here flat a resolves knows; breaks = m }
-  misused flat a (why.Misused (misuse.ResultAliases name at)) resolves knows m = record { flat = a.flat; resolved = here flat a resolves knows; breaks = m }
-  misused flat a (why.Misused misuse.Memory) resolves knows m = absurd m
-  misused flat a why.Memory resolves knows m = tt
+  pub misused : (flat : Flat) (a : Accepted) (sizing : Sizing) (refused : Refused) → Resolves program (Ok (flat_of flat)) → Knows flat a → Some_numbering (Has_sizing (typing_of a.flat) sizing) → Overwrites a.flat refused → Explains tokens refused
+  misused flat a sizing (why.Parse err) resolves knows sized m = absurd m
+  misused flat a sizing (why.NotBuilt at) resolves knows sized m = absurd m
+  misused flat a sizing (why.Names err) resolves knows sized m = absurd m
+  misused flat a sizing (why.Types err) resolves knows sized m = absurd m
+  misused flat a sizing (why.Misfit err) resolves knows sized m = absurd m
+  misused flat a sizing (why.Misused (misuse.Consumed name at used)) resolves knows sized m = record { flat = a.flat; resolved = here flat a resolves knows; sized = sizable (typing_of a.flat) sizing sized; breaks = m }
+  misused flat a sizing (why.Misused (misuse.NotConsumable name at)) resolves knows sized m = record { flat = a.flat; resolved = here flat a resolves knows; sized = sizable (typing_of a.flat) sizing sized; breaks = m }
+  misused flat a sizing (why.Misused (misuse.Captured name at)) resolves knows sized m = record { flat = a.flat; resolved = here flat a resolves knows; sized = sizable (typing_of a.flat) sizing sized; breaks = m }
+  misused flat a sizing (why.Misused (misuse.ResultAliases name at)) resolves knows sized m = record { flat = a.flat; resolved = here flat a resolves knows; sized = sizable (typing_of a.flat) sizing sized; breaks = m }
+  misused flat a sizing (why.Misused misuse.Memory) resolves knows sized m = absurd m
+  misused flat a sizing why.Memory resolves knows sized m = tt
 
 -- ---- as the stages answer
 
 module _ (tokens : List Token) (program : Program) (parsed : IsParsed tokens program) (built : first_unbuilt tokens ≡ None) where
-  pub accepts : (flat : Flat) (a : Accepted) → Resolves program (Ok (flat_of flat)) → Knows flat a → Some_numbering (Breaks_none (typing_of a.flat)) → Is_accepted tokens a
+  pub accepts : (flat : Flat) (a : Accepted) (sizing : Sizing) → Resolves program (Ok (flat_of flat)) → Knows flat a → Told_by (Has_sizing (typing_of a.flat) sizing) a.inference → Some_numbering (Has_sizing (typing_of a.flat) sizing)
+      → Some_numbering (Breaks_none (typing_of a.flat)) → Is_accepted tokens a sizing
   accepts = accepted tokens program (record { parsed = parsed; built = built })
 
   pub misnames : (refused : Refused) → IsMisnamed program refused → Explains tokens refused
@@ -128,7 +157,10 @@ module _ (tokens : List Token) (program : Program) (parsed : IsParsed tokens pro
   pub mistypes : (flat : Flat) (refused : Refused) → Resolves program (Ok (flat_of flat)) → Untyped (typing_of flat) refused → Explains tokens refused
   mistypes = mistyped tokens program (record { parsed = parsed; built = built })
 
-  pub misuses : (flat : Flat) (a : Accepted) (refused : Refused) → Resolves program (Ok (flat_of flat)) → Knows flat a → Overwrites a.flat refused → Explains tokens refused
+  pub misfits : (flat : Flat) (a : Accepted) (refused : Refused) → Resolves program (Ok (flat_of flat)) → Knows flat a → Unsized a.flat refused → Explains tokens refused
+  misfits = unsized tokens program (record { parsed = parsed; built = built })
+
+  pub misuses : (flat : Flat) (a : Accepted) (sizing : Sizing) (refused : Refused) → Resolves program (Ok (flat_of flat)) → Knows flat a → Some_numbering (Has_sizing (typing_of a.flat) sizing) → Overwrites a.flat refused → Explains tokens refused
   misuses = misused tokens program (record { parsed = parsed; built = built })
 
-pub ruleset joining = (accepts, misnames, mistypes, misuses)
+pub ruleset joining = (accepts, misnames, mistypes, misfits, misuses)

@@ -25,6 +25,11 @@ use Rattle.module_elab.specs.Elaborated.{program_of as flat_of}
 use Rattle.module_elab.specs.declared.prelude.TheConstants.{PRELUDE}
 use Rattle.unbuilt_tokens.specs.Unbuilt.{first_unbuilt}
 use Rattle.typed_programs.specs.Mistyped.{Some_numbering}
+use Rattle.sized_types.specs.Sizes.{Size}
+use Rattle.sized_programs.specs.Sizings.{Is_sized}
+use Rattle.sized_programs.specs.Misfits.{Misfits}
+use Rattle.sized_programs.specs.declared.misfit.Misfit.{Misfit}
+use Rattle.sized_programs.specs.declared.misfit.Misfit.TheVariants as misfit
 use Rattle.unique_programs.specs.Rules.{Breaks_none}
 use Rattle.unique_programs.specs.Misuses.{Misused}
 use Rattle.unique_programs.specs.declared.misuse.Misuse.{Misuse}
@@ -99,6 +104,11 @@ definitions_of flat = map defined_of flat.definitions
 abbrev pub Typable : Names → List Defined → Type 0
 Typable N ds = (types : Sub) × Typing_is N ds types
 
+-- ---- sizes
+
+abbrev pub Sizable : Names → List Defined → Type 0
+Sizable N ds = (sizes : ℕ → Size) × Is_sized ds (Ok sizes) N
+
 -- ---- what is accepted
 
 -- the tokens spell this program, in which no token of a form stands that is not built
@@ -113,10 +123,11 @@ pub record IsResolved (tokens : List Token) (answer : Result FlatProgram Refusal
   pub resolves : Resolves program answer
 
 -- The tokens are accepted: behind the prelude they are this flat program, and names and records can be numbered so that it
--- has a typing, by which it breaks no rule of aliases and consumption.
+-- has a typing, by which it has a sizing and breaks no rule of aliases and consumption.
 pub record IsAcceptable (tokens : List Token) (flat : FlatProgram) : Type 0 where
   pub resolved : IsResolved tokens (Ok flat)
   pub typed : Some_numbering (λ N. Typable N (definitions_of flat))
+  pub sized : Some_numbering (λ N. Sizable N (definitions_of flat))
   pub unbroken : Some_numbering (Breaks_none (definitions_of flat))
 
 -- ---- what is not accepted, and why
@@ -133,11 +144,19 @@ pub record IsUnbuilt (tokens : List Token) (at : Place) : Type 0 where
   pub parsed : IsParsed tokens program
   pub unbuilt : first_unbuilt tokens ≡ Some at
 
--- Their flat program has a typing by which it breaks a rule of aliases and consumption, the first of them as the refusal tells it:
--- with its names, and the places of its nodes as they stand in a tree of the program.
+-- Their flat program has a typing by which it has no sizing, for the first reason as the refusal tells it: with the sizes and the
+-- places of its nodes as they stand in a tree of the program.
+pub record IsMisfit (tokens : List Token) (refusal : Misfit) : Type 0 where
+  pub flat : Flat
+  pub resolved : IsResolved tokens (Ok (flat_of flat))
+  pub misfits : Misfits (typing_of flat) (texts flat.names.now) (program_places flat.definitions.now) refusal
+
+-- Their flat program has a sizing, and a typing by which it breaks a rule of aliases and consumption, the first of them as the
+-- refusal tells it: with its names, and the places of its nodes as they stand in a tree of the program.
 pub record IsMisused (tokens : List Token) (refusal : Misuse) : Type 0 where
   pub flat : Flat
   pub resolved : IsResolved tokens (Ok (flat_of flat))
+  pub sized : Some_numbering (λ N. Sizable N (typing_of flat))
   pub breaks : Misused (typing_of flat) (texts flat.names.now) (program_places flat.definitions.now) refusal
 
 -- why the tokens are not accepted. Want of memory says nothing of them.
@@ -151,11 +170,14 @@ Unaccepted tokens (why.Types (types.NoType at)) = IsUntyped tokens NoType
 Unaccepted tokens (why.Types (types.FunctionPlace at)) = IsUntyped tokens FunctionPlace
 Unaccepted tokens (why.Types (types.Ambiguous at)) = IsUntyped tokens Ambiguous
 Unaccepted tokens (why.Types types.Memory) = ⊥
+Unaccepted tokens (why.Misfit misfit.Memory) = ⊥
+Unaccepted tokens (why.Misfit err) = IsMisfit tokens err
 Unaccepted tokens (why.Misused misuse.Memory) = ⊥
 Unaccepted tokens (why.Misused err) = IsMisused tokens err
 Unaccepted tokens why.Memory = ⊥
 
--- a rule of aliases and consumption is broken
-abbrev pub IsMisuse : Refused → Type 0
-IsMisuse (why.Misused err) = Unit {0}
-IsMisuse refused = ⊥
+-- the refusal is one of sizes, or of aliases and consumption
+abbrev pub IsBehindTypes : Refused → Type 0
+IsBehindTypes (why.Misfit err) = Unit {0}
+IsBehindTypes (why.Misused err) = Unit {0}
+IsBehindTypes refused = ⊥

@@ -12,6 +12,11 @@ use Rattle.elab_scopes.specs.Names.{Refusal}
 use Rattle.elab_scopes.specs.Names as refusal
 use Rattle.elab_scopes.specs.Programs.{FlatProgram}
 use Rattle.module_elab.specs.Elaborated.{program_of as flat_of}
+use Rattle.type_infer.specs.Inferring.{Told_by}
+use Rattle.sized_programs.specs.Misfits.{Misfits}
+use Rattle.sized_programs.specs.Sizings.{Has_sizing}
+use Rattle.sized_programs.specs.declared.checking.Sizing.{Sizing}
+use Rattle.sized_programs.specs.declared.misfit.Misfit.TheVariants as misfit
 use Rattle.typed_programs.specs.Known.{Is_known}
 use Rattle.typed_programs.specs.Mistyped.{Mistyped}
 use Rattle.typed_programs.specs.declared.typed.Accepted.{Accepted}
@@ -24,9 +29,10 @@ use Rattle.front.specs.declared.refusals.Refused.{Refused}
 use Rattle.front.specs.declared.refusals.Refused.TheVariants as why
 
 -- the tokens are accepted, and what is known of their program
-pub record Is_accepted (tokens : List Token) (accepted : Accepted) : Type 0 where
+pub record Is_accepted (tokens : List Token) (accepted : Accepted) (sizing : Sizing) : Type 0 where
   pub acceptable : IsAcceptable tokens (flat_of accepted.flat)
   pub known : Is_known accepted
+  pub sized : Told_by (Has_sizing (typing_of accepted.flat) sizing) accepted.inference
 
 -- memory ran out, or the tokens spell no program for this reason
 abbrev pub Misspells : List Token → ParseErr → Type 0
@@ -41,6 +47,7 @@ Misnames answer (why.Names (names.Unbound name at)) = answer ≡ Err (refusal.Un
 Misnames answer (why.Names (names.Twice name at)) = answer ≡ Err (refusal.Twice name at)
 Misnames answer (why.Names (names.NoMember name at)) = answer ≡ Err (refusal.NoMember name at)
 Misnames answer (why.Types err) = ⊥
+Misnames answer (why.Misfit err) = ⊥
 Misnames answer (why.Misused err) = ⊥
 Misnames answer why.Memory = Unit {0}
 
@@ -52,6 +59,7 @@ IsMisnamed program (why.Names (names.Unbound name at)) = Resolves program (Err (
 IsMisnamed program (why.Names (names.Twice name at)) = Resolves program (Err (refusal.Twice name at))
 IsMisnamed program (why.Names (names.NoMember name at)) = Resolves program (Err (refusal.NoMember name at))
 IsMisnamed program (why.Types err) = ⊥
+IsMisnamed program (why.Misfit err) = ⊥
 IsMisnamed program (why.Misused err) = ⊥
 IsMisnamed program why.Memory = Unit {0}
 
@@ -62,8 +70,20 @@ Untyped ds (why.NotBuilt at) = ⊥
 Untyped ds (why.Names err) = ⊥
 Untyped ds (why.Types types.Memory) = ⊥
 Untyped ds (why.Types err) = Mistyped ds err
+Untyped ds (why.Misfit err) = ⊥
 Untyped ds (why.Misused err) = ⊥
 Untyped ds why.Memory = Unit {0}
+
+-- memory ran out, or the program has no sizing
+abbrev pub Unsized : Flat → Refused → Type 0
+Unsized flat (why.Parse err) = ⊥
+Unsized flat (why.NotBuilt at) = ⊥
+Unsized flat (why.Names err) = ⊥
+Unsized flat (why.Types err) = ⊥
+Unsized flat (why.Misfit misfit.Memory) = ⊥
+Unsized flat (why.Misfit err) = Misfits (typing_of flat) (texts flat.names.now) (program_places flat.definitions.now) err
+Unsized flat (why.Misused err) = ⊥
+Unsized flat why.Memory = Unit {0}
 
 -- memory ran out, or the program breaks a rule of aliases and consumption
 abbrev pub Overwrites : Flat → Refused → Type 0
@@ -71,6 +91,7 @@ Overwrites flat (why.Parse err) = ⊥
 Overwrites flat (why.NotBuilt at) = ⊥
 Overwrites flat (why.Names err) = ⊥
 Overwrites flat (why.Types err) = ⊥
+Overwrites flat (why.Misfit err) = ⊥
 Overwrites flat (why.Misused misuse.Memory) = ⊥
 Overwrites flat (why.Misused err) = Misused (typing_of flat) (texts flat.names.now) (program_places flat.definitions.now) err
 Overwrites flat why.Memory = Unit {0}

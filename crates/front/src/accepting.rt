@@ -6,10 +6,12 @@ ghost use Rattle.fut_tree.specs.Names.{all};
 ghost use Rattle.fut_typing.specs.Program.{program_of as typing_of};
 ghost use Rattle.module_elab.specs.Elaborated.{program_of as flat_of, Tells};
 ghost use Rattle.front.specs.Acceptance.{IsParsed, IsPreludeText, Resolves};
+ghost use Rattle.sized_programs.specs.Sizings.{Has_sizing};
+ghost use Rattle.type_infer.specs.Inferring.{Told_by};
 ghost use Rattle.typed_programs.specs.Known.{Is_known, Knows};
 ghost use Rattle.typed_programs.specs.Mistyped.{Some_numbering};
 ghost use Rattle.unique_programs.specs.Rules.{Breaks_none};
-ghost use Rattle.front.specs.Stages.{Explains, Is_accepted, IsMisnamed, Misnames, Misspells, Overwrites, Untyped};
+ghost use Rattle.front.specs.Stages.{Explains, Is_accepted, IsMisnamed, Misnames, Misspells, Overwrites, Unsized, Untyped};
 
 use crate::reading::{Prelude, prelude_tree};
 use crate::refusals::{NameErr, Refused};
@@ -20,6 +22,7 @@ use fut_scalar::{Name, NoMemory};
 use fut_token::Token;
 use fut_tree::{Held, Program};
 use module_elab::{ModErr, PRELUDE_PATH, SourceSet, elaborate};
+use sized_programs::{Misfit, SizedProgram, Sizing, sized_program};
 use std::alloc::Global;
 use typed_programs::{Accepted, TypeErr, typed_program};
 use unbuilt_tokens::first_unbuilt;
@@ -138,6 +141,37 @@ fn typed<'a>(alloc: Global, bump: &'a Bump, flat: Flat<'a>) -> Result<&'a Accept
     }
 }
 
+/// A sizing, held by the arena.
+fn kept_sizing<'a>(bump: &'a Bump, sizing: Sizing<'a>) -> Result<&'a Sizing<'a>, NoMemory>
+    ensures { IfOk result (λ at. at.now ≡ sizing.entry) }
+{
+    match bump.try_alloc(sizing) {
+        Ok(at) => Ok(at),
+        Err(_failed) => Err(NoMemory),
+    }
+}
+
+/// The sized types of a typed program, held by the arena.
+fn sized<'a>(
+    alloc: Global,
+    bump: &'a Bump,
+    accepted: &'a Accepted<'a>,
+) -> Result<&'a Sizing<'a>, Refused>
+    requires known { Is_known accepted.now }
+    ensures ok { IfOk result (λ sizing. Told_by (Has_sizing (typing_of accepted.now.flat) sizing.now) accepted.now.inference) }
+    ensures numbered { IfOk result (λ sizing. Some_numbering (Has_sizing (typing_of accepted.now.flat) sizing.now)) }
+    ensures err { IfErr result (Unsized accepted.now.flat) }
+{
+    match sized_program(alloc, bump, &accepted.flat, &accepted.inference) {
+        Ok(sizing) => match kept_sizing(bump, sizing) {
+            Ok(at) => Ok(at),
+            Err(_) => Err(Refused::Memory),
+        },
+        Err(Misfit::Memory) => Err(Refused::Memory),
+        Err(misfit) => Err(Refused::Misfit(misfit)),
+    }
+}
+
 /// Whether a typed program breaks no rule of aliases and consumption.
 fn unbroken<'a>(alloc: Global, bump: &'a Bump, accepted: &'a Accepted<'a>) -> Result<(), Refused>
     requires known { Is_known accepted.now }
@@ -153,16 +187,16 @@ fn unbroken<'a>(alloc: Global, bump: &'a Bump, accepted: &'a Accepted<'a>) -> Re
 
 /// The program that the tokens of a file spell behind the prelude, or why it is not accepted. It lies in the arena with its trees.
 ///
-/// The cost is linear in the tokens, but for what types and the sets of aliases cost.
+/// The cost is linear in the tokens, but for what types, sizes and the sets of aliases cost.
 #[tactic(auto, using(crate::proofs::Joining::joining))]
 pub fn accept<'a>(
     alloc: Global,
     bump: &'a Bump,
     prelude: &'a Prelude,
     tokens: &'a [Token],
-) -> Result<&'a Accepted<'a>, Refused>
+) -> Result<SizedProgram<'a>, Refused>
     requires prelude { IsPreludeText prelude.now.tokens }
-    ensures accepted { IfOk result (λ accepted. Is_accepted tokens.now accepted.now) }
+    ensures accepted { IfOk result (λ program. Is_accepted tokens.now program.accepted.now program.sizing.now) }
     ensures refused { IfErr result (Explains tokens.now) }
 {
     let program = match parsed(bump, tokens) {
@@ -170,10 +204,8 @@ pub fn accept<'a>(
         Err(ParseErr::Memory) => return Err(Refused::Memory),
         Err(err) => return Err(Refused::Parse(err)),
     };
-    match first_unbuilt(alloc, tokens) {
-        Ok(None) => {}
-        Ok(Some(at)) => return Err(Refused::NotBuilt { at }),
-        Err(_) => return Err(Refused::Memory),
+    if let Some(at) = first_unbuilt(tokens) {
+        return Err(Refused::NotBuilt { at });
     }
     let flat = match resolved(alloc, bump, prelude, program) {
         Ok(flat) => flat,
@@ -183,8 +215,12 @@ pub fn accept<'a>(
         Ok(accepted) => accepted,
         Err(refused) => return Err(refused),
     };
+    let sizing = match sized(alloc, bump, accepted) {
+        Ok(sizing) => sizing,
+        Err(refused) => return Err(refused),
+    };
     match unbroken(alloc, bump, accepted) {
-        Ok(()) => Ok(accepted),
+        Ok(()) => Ok(SizedProgram { accepted, sizing }),
         Err(refused) => Err(refused),
     }
 }

@@ -1,6 +1,7 @@
 // Why a program is not accepted.
 use fut_parser::ParseErr;
 use fut_scalar::{Name, Place};
+use sized_programs::Misfit;
 use typed_programs::TypeErr;
 use unique_programs::Misuse;
 
@@ -23,6 +24,7 @@ pub enum Refused {
     NotBuilt { at: Place },
     Names(NameErr),
     Types(TypeErr),
+    Misfit(Misfit),
     Misused(Misuse),
     /// Memory ran out.
     ///

@@ -17,6 +17,7 @@ use Rattle.elab_scopes.specs.Programs.{FlatProgram, resolve_program}
 use Rattle.module_elab.specs.Elaborated.{program_of as flat_of}
 use Rattle.typed_programs.specs.declared.typed.TypeErr.{TypeErr}
 use Rattle.typed_programs.specs.declared.typed.TypeErr.TheVariants as types
+use Rattle.sized_programs.specs.declared.misfit.Misfit.{Misfit}
 use Rattle.unique_programs.specs.declared.misuse.Misuse.{Misuse}
 use Rattle.front.specs.Acceptance.{IsResolved, IsUntyped, Unaccepted, Unspelled}
 use Rattle.front.specs.Entries.{HasEntry, HasNoEntry}
@@ -36,16 +37,18 @@ use Rattle.futhark_status.specs.declared.status.LimitKind.TheVariants as limit
 use Rattle.futhark_status.specs.declared.status.Why.{Why}
 use Rattle.futhark_status.specs.declared.status.Why.TheVariants as why
 use Rattle.futhark_status.specs.declared.status.Status.{Status}
-use Rattle.futhark_status.specs.declared.status.Status.TheVariants.{Done, Usage, LoadFault, Text, Names, Types, Unique, Entry, Limit, ReadFault, Input, Failure, Turns, WriteFault, Memory}
-use Rattle.futhark_core.specs.Acceptance.{Source, Unlexed, UnacceptedTokens, LexedUnaccepted}
+use Rattle.futhark_status.specs.declared.status.Status.TheVariants.{Done, Usage, LoadFault, Text, Names, Types, Sizes, Unique, Entry, Limit, ReadFault, Input, Failure, Turns, WriteFault, Memory}
+use Rattle.futhark_core.specs.Acceptance.{Source, AcceptedFile, Unlexed, UnacceptedTokens, LexedUnaccepted}
 use Rattle.futhark_core.specs.Entering.{NotEntered}
-use Rattle.futhark_core.specs.Inputs.{wanted}
+use Rattle.entry_sizes.proofs.Wanting.{are_wanted}
+use Rattle.typed_programs.specs.EntryTypes.{number_of}
 use Rattle.futhark_core.specs.Meaning.{Entered, IsEntered, Allows, Lawfully_allows, Alone, Answers}
-use Rattle.futhark_core.specs.Row.{Outside, Streams, RunRow, TextRow, NamesRow, TypesRow, UniqueRow, LoadRow, FrontRow, Started, InputRow, ActionRow, ProgramRow, CheckRow, status_for}
-use Rattle.futhark_core.specs.Comes.{Accepted, Acted, Agrees, AskedRun, Done_with, Argued, Built, Comes, Commanded, Complete, Came, Ending, Entering, FileHeld, IsLimit, Lacks, Named, NoFault, Onward, Parsed, ParserRefusal, Ran, Stage, Tells, Then, Told, Tokenized, Typed, Unbroken, Unread, refusal_of}
+use Rattle.futhark_core.specs.Row.{Outside, Streams, RunRow, TextRow, NamesRow, TypesRow, SizesRow, UniqueRow, LoadRow, FrontRow, Started, InputRow, ActionRow, ProgramRow, CheckRow, status_for}
+use Rattle.futhark_core.specs.Comes.{Accepted, Acted, Agrees, AskedRun, Done_with, Argued, Built, Comes, Commanded, Complete, Came, Ending, Entering, FileHeld, IsLimit, Lacks, Named, NoFault, Onward, Parsed, ParserRefusal, Ran, Sized, Stage, Tells, Then, Told, Tokenized, Typed, Unbroken, Unread, refusal_of}
+use Rattle.futhark_core.proofs.Misfitting.{misfits, typable as misfit_typable}
 use Rattle.futhark_core.proofs.Misusing.{breaks, typable}
 use Rattle.futhark_core.proofs.Reading.{types_of_reading}
-use Rattle.futhark_core.proofs.Settling.{EndsAs, Holds, Settles, TypesRefusal, UniqueRefusal, built_err, built_ok, commanded_err, commanded_ok, held_err, held_ok, named_err, named_ok, parsed_none, parsed_ok, then_ends, then_err, then_ok, tokenized_err, tokenized_ok, typed_err, typed_ok, unbroken_err, unbroken_ok}
+use Rattle.futhark_core.proofs.Settling.{EndsAs, Holds, Settles, SizesRefusal, TypesRefusal, UniqueRefusal, built_err, built_ok, commanded_err, commanded_ok, held_err, held_ok, named_err, named_ok, parsed_none, parsed_ok, sized_err, sized_ok, then_ends, then_err, then_ok, tokenized_err, tokenized_ok, typed_err, typed_ok, unbroken_err, unbroken_ok}
 
 -- ---- entries
 
@@ -71,7 +74,7 @@ module _ (source : Source) (name : List ℕ) (turns : ℕ) (resolved : resolve_p
         go (Err status) (inr p) on = absurd (p.1 source refl e is)
 
     -- the files allow this outcome for what the input reads as
-    ran_as : (left : List ℕ) (asked : AskedRun) → asked ≡ record { flat = flat; name = name; turns = turns; input = left } → (status : Status) (outcome : Answer) (values : List Value) → Reads (wanted e.params) left values → (words : ℕ) → Allows source e turns (map datum_of values) true outcome words → Tells outcome status ⊎ IsLimit status → Agrees status (Ok (Ran asked))
+    ran_as : (left : List ℕ) (asked : AskedRun) → asked ≡ record { flat = flat; name = name; turns = turns; input = left } → (status : Status) (outcome : Answer) (values : List Value) → Reads e.wanted left values → (words : ℕ) → Allows source e turns (map datum_of values) true outcome words → Tells outcome status ⊎ IsLimit status → Agrees status (Ok (Ran asked))
     ran_as left asked same status outcome values reads words allows tells = subst (λ z. Agrees status (Ok (Ran z))) (sym same)
         (outcome, record { source = source; flat = refl; files = resolved; entered = e; is_entered = is; arguments = values; reads = reads; words = words; allows = allows }, tells)
 
@@ -81,7 +84,7 @@ module _ (source : Source) (name : List ℕ) (turns : ℕ) (resolved : resolve_p
     past_limit status past answers (Some left) (Ok Told) p = absurd p
     past_limit status past answers (Some left) (Ok (Ran asked)) p =
         let read = p.2 source refl e is in
-        let some = answers (map datum_of read.0) (types_of_reading e.params left read.0 read.1) in
+        let some = answers (map datum_of read.0) (types_of_reading e.params e.wanted (are_wanted e.params (is.typed.sizes (number_of source.flat is.at)) e.wanted is.wants) left read.0 read.1) in
         ran_as left asked p.0 status some.0 read.0 read.1 some.1 some.2 (inr past)
     past_limit status past answers (Some left) (Ok (Came outcome)) p = inr past
     past_limit status past answers (Some left) (Ok (Unread st)) p = inr past
@@ -98,7 +101,7 @@ module _ (source : Source) (name : List ℕ) (turns : ℕ) (resolved : resolve_p
     too_long (Some left) long (Err st) p = absurd p
 
     -- the input is refused
-    refused_input : (err : TextErr) (bytes : List ℕ) (left : Option (List ℕ)) → IfSome left (λ left. bytes ≡ left) → length bytes ≤ 67108864 → Refuses (wanted e.params) bytes err → (end : Result Ending Status) → Argued flat name turns left end → Agrees (Input err) end
+    refused_input : (err : TextErr) (bytes : List ℕ) (left : Option (List ℕ)) → IfSome left (λ left. bytes ≡ left) → length bytes ≤ 67108864 → Refuses e.wanted bytes err → (end : Result Ending Status) → Argued flat name turns left end → Agrees (Input err) end
     refused_input err bytes None all short refuses end p = absurd p
     refused_input err bytes (Some left) all short refuses (Ok Told) p = absurd p
     refused_input err bytes (Some left) all short refuses (Ok (Ran asked)) p =
@@ -111,7 +114,7 @@ module _ (source : Source) (name : List ℕ) (turns : ℕ) (resolved : resolve_p
     refused_input err bytes (Some left) all short refuses (Err st) p = absurd p
 
     -- the program came to this answer, and the files lawfully allow no other
-    ran_to : (status : Status) (outcome : Answer) → Tells outcome status → (bytes : List ℕ) (values : List Value) (words : ℕ) → Allows source e turns (map datum_of values) true outcome words → Alone source e turns (map datum_of values) outcome → (left : Option (List ℕ)) → IfSome left (λ left. bytes ≡ left) → length bytes ≤ 67108864 → Reads (wanted e.params) bytes values → (end : Result Ending Status) → Argued flat name turns left end → Agrees status end
+    ran_to : (status : Status) (outcome : Answer) → Tells outcome status → (bytes : List ℕ) (values : List Value) (words : ℕ) → Allows source e turns (map datum_of values) true outcome words → Alone source e turns (map datum_of values) outcome → (left : Option (List ℕ)) → IfSome left (λ left. bytes ≡ left) → length bytes ≤ 67108864 → Reads e.wanted bytes values → (end : Result Ending Status) → Argued flat name turns left end → Agrees status end
     ran_to status outcome tells bytes values words allows alone None all short reads end p = absurd p
     ran_to status outcome tells bytes values words allows alone (Some left) all short reads (Ok Told) p = absurd p
     ran_to status outcome tells bytes values words allows alone (Some left) all short reads (Ok (Ran asked)) p =
@@ -192,13 +195,21 @@ module _ (words : List (List ℕ)) (old new : Outside) (quiet : NoFault old new)
         go (Ok end) p = absurd p
         go (Err status) p = inr (inr (inl (asked.file, err, p.0, p.1, refl, p.2)))
 
+    -- it has no sizing
+    misfitting : (err : Misfit) → Holds (Accepted files asked.file) (EndsAs (SizesRefusal asked.file)) → Ends (status_for (why.Sizes err) asked.file)
+    misfitting err ends a comes = go a (onward (EndsAs (SizesRefusal asked.file)) (then_ends (Accepted files asked.file) _ (SizesRefusal asked.file) ends) a comes)
+      where
+        go : (a : Result Ending Status) → EndsAs (SizesRefusal asked.file) a → Agrees (status_for (why.Sizes err) asked.file) a
+        go (Ok end) p = absurd p
+        go (Err status) p = inr (inr (inr (inl (asked.file, err, p.0, refl, p.1))))
+
     -- a rule of aliases and consumption is broken
     overwrites : (err : Misuse) → Holds (Accepted files asked.file) (EndsAs (UniqueRefusal asked.file)) → Ends (status_for (why.Unique err) asked.file)
     overwrites err ends a comes = go a (onward (EndsAs (UniqueRefusal asked.file)) (then_ends (Accepted files asked.file) _ (UniqueRefusal asked.file) ends) a comes)
       where
         go : (a : Result Ending Status) → EndsAs (UniqueRefusal asked.file) a → Agrees (status_for (why.Unique err) asked.file) a
         go (Ok end) p = absurd p
-        go (Err status) p = inr (inr (inr (asked.file, err, p.0, refl, p.1)))
+        go (Err status) p = inr (inr (inr (inr (asked.file, err, p.0, refl, p.1))))
 
     file_too_long : Settles (FileHeld files asked.file) (Err (Limit limit.FileBytes)) → Ends (Limit limit.FileBytes)
     file_too_long settles = refused_with (Limit limit.FileBytes) (then_err (FileHeld files asked.file) _ (Limit limit.FileBytes) settles)
@@ -219,7 +230,7 @@ module _ (words : List (List ℕ)) (old new : Outside) (quiet : NoFault old new)
       module _ (tokens : List Token) (spelled : Settles (Tokenized asked.file body) (Ok tokens)) where
         -- what comes behind the names
         abbrev Typed_apart : FlatProgram → Stage FlatProgram
-        Typed_apart flat = Then (Typed asked.file flat) (λ typed. Unbroken asked.file typed)
+        Typed_apart flat = Then (Typed asked.file flat) (λ typed. Then (Sized asked.file typed) (λ sized. Unbroken asked.file sized))
 
         -- of what the tokens come to this holds, so of the file
         from_tokens : (P : Result FlatProgram Status → Type 0)
@@ -264,19 +275,29 @@ module _ (words : List (List ℕ)) (old new : Outside) (quiet : NoFault old new)
             (then_ok (Named asked.file t.resolved.program) _ (EndsAs (TypesRefusal asked.file err)) t.flat (named_ok asked.file t.resolved.program t.flat t.resolved.resolves)
             (then_ends (Typed asked.file t.flat) _ (TypesRefusal asked.file err) (typed_err asked.file t.flat err t.lacks))))
 
+        sizes_so : (err : Misfit) → Unaccepted tokens (refused.Misfit err) → Ends (status_for (why.Sizes err) asked.file)
+        sizes_so err u =
+            let m = misfits tokens err u in
+            misfitting err (from_names (Ok m.flat) m.resolved (EndsAs (SizesRefusal asked.file))
+            (then_ok (Named asked.file m.resolved.program) _ (EndsAs (SizesRefusal asked.file)) m.flat (named_ok asked.file m.resolved.program m.flat m.resolved.resolves)
+            (then_ok (Typed asked.file m.flat) _ (EndsAs (SizesRefusal asked.file)) m.flat (typed_ok asked.file m.flat (misfit_typable m.flat m.N m.are m.refusal m.first))
+            (then_ends (Sized asked.file m.flat) _ (SizesRefusal asked.file) (sized_err asked.file m.flat m.N m.are m.refusal m.first)))))
+
         unique_so : (err : Misuse) → Unaccepted tokens (refused.Misused err) → Ends (status_for (why.Unique err) asked.file)
         unique_so err u =
             let b = breaks tokens err u in
             overwrites err (from_names (Ok b.flat) b.resolved (EndsAs (UniqueRefusal asked.file))
             (then_ok (Named asked.file b.resolved.program) _ (EndsAs (UniqueRefusal asked.file)) b.flat (named_ok asked.file b.resolved.program b.flat b.resolved.resolves)
             (then_ok (Typed asked.file b.flat) _ (EndsAs (UniqueRefusal asked.file)) b.flat (typed_ok asked.file b.flat (typable b.flat b.N b.are b.rule b.first))
-            (unbroken_err asked.file b.flat b.N b.are b.rule b.first))))
+            (then_ok (Sized asked.file b.flat) _ (EndsAs (UniqueRefusal asked.file)) b.flat (sized_ok asked.file b.flat b.sized)
+            (unbroken_err asked.file b.flat b.N b.are b.rule b.first)))))
 
         explained : (reason : Why) → UnacceptedTokens tokens reason → Ends (status_for reason asked.file)
         explained (why.Parse err) u = parsed err u
         explained (why.NotBuilt place) u = not_built place u
         explained (why.Names err) u = named_so err u
         explained (why.Types err) u = typed_so err u
+        explained (why.Sizes err) u = sizes_so err u
         explained (why.Unique err) u = unique_so err u
         explained why.Load u = absurd u
         explained (why.Lex err) u = absurd u
@@ -300,6 +321,18 @@ module _ (words : List (List ℕ)) (old new : Outside) (quiet : NoFault old new)
       let u = rw row.path_is at row.unaccepted in
       of_path row.asked path (why.Parse err) row.path_is (of_tokens row.asked row.command u.text u.loaded (why.Parse err) u.unaccepted)
 
+  -- ---- an accepted source
+
+  module _ (asked : Command) (source : Source) (command : command_of words ≡ Ok asked) (a : AcceptedFile asked.file old.loader new.loader source) where
+    accepted : Settles (Accepted files asked.file) (Ok (flat_of source.flat))
+    accepted =
+        let t = a.accepted in let p = t.accepted.acceptable in
+        from_names asked command a.text a.loaded t.tokens (tokenized_ok asked.file a.text t.tokens t.lexed) (Ok (flat_of source.flat)) p.resolved (λ end. end ≡ Ok (flat_of source.flat))
+        (then_ok (Named asked.file p.resolved.program) _ (λ end. end ≡ Ok (flat_of source.flat)) (flat_of source.flat) (named_ok asked.file p.resolved.program (flat_of source.flat) p.resolved.resolves)
+        (then_ok (Typed asked.file (flat_of source.flat)) _ (λ end. end ≡ Ok (flat_of source.flat)) (flat_of source.flat) (typed_ok asked.file (flat_of source.flat) p.typed)
+        (then_ok (Sized asked.file (flat_of source.flat)) _ (λ end. end ≡ Ok (flat_of source.flat)) (flat_of source.flat) (sized_ok asked.file (flat_of source.flat) p.sized)
+        (unbroken_ok asked.file (flat_of source.flat) p.unbroken))))
+
   front_built : (place : _) (path : List ℕ) → FrontRow (why.NotBuilt place) words old new path → Ends (status_for (why.NotBuilt place) path)
   front_built place path row =
       let u = rw row.path_is at row.unaccepted in
@@ -314,6 +347,7 @@ module _ (words : List (List ℕ)) (old new : Outside) (quiet : NoFault old new)
   refused_text (why.NotBuilt place) path row = front_built place path row
   refused_text (why.Names err) path row = absurd row
   refused_text (why.Types err) path row = absurd row
+  refused_text (why.Sizes err) path row = absurd row
   refused_text (why.Unique err) path row = absurd row
   refused_text why.Load path row = absurd row
   refused_text why.FileBytes path row = absurd row
@@ -327,6 +361,7 @@ module _ (words : List (List ℕ)) (old new : Outside) (quiet : NoFault old new)
   refused_names (why.Parse err) path row = absurd row
   refused_names (why.NotBuilt place) path row = absurd row
   refused_names (why.Types err) path row = absurd row
+  refused_names (why.Sizes err) path row = absurd row
   refused_names (why.Unique err) path row = absurd row
   refused_names why.Load path row = absurd row
   refused_names why.FileBytes path row = absurd row
@@ -340,10 +375,25 @@ module _ (words : List (List ℕ)) (old new : Outside) (quiet : NoFault old new)
   refused_types (why.Parse err) path row = absurd row
   refused_types (why.NotBuilt place) path row = absurd row
   refused_types (why.Names err) path row = absurd row
+  refused_types (why.Sizes err) path row = absurd row
   refused_types (why.Unique err) path row = absurd row
   refused_types why.Load path row = absurd row
   refused_types why.FileBytes path row = absurd row
   refused_types why.Memory path row = absurd row
+
+  refused_sizes : (reason : Why) (path : List ℕ) → SizesRow reason words old new path → Ends (Sizes (record { why = reason; path = path }))
+  refused_sizes (why.Sizes err) path row =
+      let u = rw row.path_is at row.unaccepted in
+      of_path row.asked path (why.Sizes err) row.path_is (of_tokens row.asked row.command u.text u.loaded (why.Sizes err) u.unaccepted)
+  refused_sizes (why.Lex err) path row = absurd row
+  refused_sizes (why.Parse err) path row = absurd row
+  refused_sizes (why.NotBuilt place) path row = absurd row
+  refused_sizes (why.Names err) path row = absurd row
+  refused_sizes (why.Types err) path row = absurd row
+  refused_sizes (why.Unique err) path row = absurd row
+  refused_sizes why.Load path row = absurd row
+  refused_sizes why.FileBytes path row = absurd row
+  refused_sizes why.Memory path row = absurd row
 
   refused_unique : (reason : Why) (path : List ℕ) → UniqueRow reason words old new path → Ends (Unique (record { why = reason; path = path }))
   refused_unique (why.Unique err) path row =
@@ -354,6 +404,7 @@ module _ (words : List (List ℕ)) (old new : Outside) (quiet : NoFault old new)
   refused_unique (why.NotBuilt place) path row = absurd row
   refused_unique (why.Names err) path row = absurd row
   refused_unique (why.Types err) path row = absurd row
+  refused_unique (why.Sizes err) path row = absurd row
   refused_unique why.Load path row = absurd row
   refused_unique why.FileBytes path row = absurd row
   refused_unique why.Memory path row = absurd row
@@ -365,11 +416,12 @@ module _ (words : List (List ℕ)) (old new : Outside) (quiet : NoFault old new)
   no_load (why.NotBuilt place) path status row = absurd row
   no_load (why.Names err) path status row = absurd row
   no_load (why.Types err) path status row = absurd row
+  no_load (why.Sizes err) path status row = absurd row
   no_load (why.Unique err) path status row = absurd row
   no_load why.FileBytes path status row = absurd row
   no_load why.Memory path status row = absurd row
 
-  -- ---- an accepted source
+  -- ---- what is done with an accepted source
 
   abbrev before : Streams
   before = record { input = old.input; out = old.out }
@@ -378,16 +430,8 @@ module _ (words : List (List ℕ)) (old new : Outside) (quiet : NoFault old new)
   behind = record { input = new.input; out = new.out }
 
   module _ (asked : Command) (source : Source) (s : Started words old new asked source) where
-    accepted : Settles (Accepted files asked.file) (Ok (flat_of source.flat))
-    accepted =
-        let a = s.accepted in let t = a.accepted in let p = t.accepted.acceptable in
-        from_names asked s.command a.text a.loaded t.tokens (tokenized_ok asked.file a.text t.tokens t.lexed) (Ok (flat_of source.flat)) p.resolved (λ end. end ≡ Ok (flat_of source.flat))
-        (then_ok (Named asked.file p.resolved.program) _ (λ end. end ≡ Ok (flat_of source.flat)) (flat_of source.flat) (named_ok asked.file p.resolved.program (flat_of source.flat) p.resolved.resolves)
-        (then_ok (Typed asked.file (flat_of source.flat)) _ (λ end. end ≡ Ok (flat_of source.flat)) (flat_of source.flat) (typed_ok asked.file (flat_of source.flat) p.typed)
-        (unbroken_ok asked.file (flat_of source.flat) p.unbroken)))
-
     acted : (status : Status) → Holds (Acted asked old.input.left (flat_of source.flat)) (Agrees status) → Ends status
-    acted status h = onward asked s.command (Agrees status) (then_ok (Accepted files asked.file) _ (Agrees status) (flat_of source.flat) accepted h)
+    acted status h = onward asked s.command (Agrees status) (then_ok (Accepted files asked.file) _ (Agrees status) (flat_of source.flat) (accepted asked source s.command s.accepted) h)
 
   module _ (asked : Command) (source : Source) (s : Started words old new asked source) where
     abbrev entry : List ℕ
@@ -434,6 +478,7 @@ module _ (words : List (List ℕ)) (old new : Outside) (quiet : NoFault old new)
       ran (Text refused) row = absurd row
       ran (Names refused) row = absurd row
       ran (Types refused) row = absurd row
+      ran (Sizes refused) row = absurd row
       ran (Unique refused) row = absurd row
       ran (Limit limit.FileBytes) row = absurd row
       ran (Limit limit.Nesting) row = absurd row
@@ -454,6 +499,7 @@ module _ (words : List (List ℕ)) (old new : Outside) (quiet : NoFault old new)
   ends (Text refused) row = inl (refused_text refused.why refused.path row)
   ends (Names refused) row = inl (refused_names refused.why refused.path row)
   ends (Types refused) row = inl (refused_types refused.why refused.path row)
+  ends (Sizes refused) row = inl (refused_sizes refused.why refused.path row)
   ends (Unique refused) row = inl (refused_unique refused.why refused.path row)
   ends (Limit limit.FileBytes) row =
       let f = row.row in let u = rw f.path_is at f.unaccepted in inl (file_too_long f.asked f.command (held_err files f.asked.file u.long))

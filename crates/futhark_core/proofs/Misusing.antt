@@ -15,7 +15,7 @@ use Rattle.unique_programs.specs.Rules.{First_broken}
 use Rattle.unique_programs.specs.Misuses.{Is_broken}
 use Rattle.unique_programs.specs.declared.misuse.Misuse.{Misuse}
 use Rattle.unique_programs.specs.declared.misuse.Misuse.TheVariants as misuse
-use Rattle.front.specs.Acceptance.{IsResolved, Typable, Unaccepted, definitions_of}
+use Rattle.front.specs.Acceptance.{IsResolved, Sizable, Typable, Unaccepted, definitions_of}
 use Rattle.front.specs.declared.refusals.Refused.TheVariants as refused
 use Rattle.front.proofs.Joining.{same_definitions}
 
@@ -24,6 +24,7 @@ pub record Breaks (tokens : List Token) : Type 0 where
   pub resolved : IsResolved tokens (Ok flat)
   pub N : Numbering
   pub are : AreNames N
+  pub sized : Some_numbering (λ N. Sizable N (definitions_of flat))
   pub rule : Broken
   pub first : First_broken (definitions_of flat) (Some rule) N
 
@@ -31,19 +32,20 @@ pub typable : (flat : FlatProgram) (N : Numbering) → AreNames N → (rule : Br
 typable flat N are rule first = (N, are, (first.types, first.typing))
 
 module _ (tokens : List Token) where
-  by : (flat : Flat) → IsResolved tokens (Ok (flat_of flat)) → (names : List Text) (places : List Place) (err : Misuse) → Some_numbering (Is_broken (typing_of flat) names places err) → Breaks tokens
-  by flat resolved names places err some = record {
+  by : (flat : Flat) → IsResolved tokens (Ok (flat_of flat)) → Some_numbering (λ N. Sizable N (typing_of flat)) → (names : List Text) (places : List Place) (err : Misuse) → Some_numbering (Is_broken (typing_of flat) names places err) → Breaks tokens
+  by flat resolved sized names places err some = record {
     flat = flat_of flat;
     resolved = resolved;
     N = some.0;
     are = some.1;
+    sized = subst (λ ds. Some_numbering (λ N. Sizable N ds)) (sym (same_definitions flat)) sized;
     rule = some.2.rule;
     first = subst (λ ds. First_broken ds (Some some.2.rule) some.0) (sym (same_definitions flat)) some.2.first;
   }
 
   pub breaks : (err : Misuse) → Unaccepted tokens (refused.Misused err) → Breaks tokens
-  breaks (misuse.Consumed name at used) u = by u.flat u.resolved _ _ _ u.breaks
-  breaks (misuse.NotConsumable name at) u = by u.flat u.resolved _ _ _ u.breaks
-  breaks (misuse.Captured name at) u = by u.flat u.resolved _ _ _ u.breaks
-  breaks (misuse.ResultAliases name at) u = by u.flat u.resolved _ _ _ u.breaks
+  breaks (misuse.Consumed name at used) u = by u.flat u.resolved u.sized _ _ _ u.breaks
+  breaks (misuse.NotConsumable name at) u = by u.flat u.resolved u.sized _ _ _ u.breaks
+  breaks (misuse.Captured name at) u = by u.flat u.resolved u.sized _ _ _ u.breaks
+  breaks (misuse.ResultAliases name at) u = by u.flat u.resolved u.sized _ _ _ u.breaks
   breaks misuse.Memory u = absurd u

@@ -14,7 +14,7 @@ use Rattle.futhark_status.specs.declared.status.LimitKind.TheVariants as limit
 use Rattle.futhark_status.specs.declared.status.Why.{Why}
 use Rattle.futhark_status.specs.declared.status.Why.TheVariants as why
 use Rattle.futhark_status.specs.declared.status.Status.{Status}
-use Rattle.futhark_status.specs.declared.status.Status.TheVariants.{Done, Usage, LoadFault, Text, Names, Types, Unique, Entry, Limit, ReadFault, Input, Failure, Turns, WriteFault, Memory}
+use Rattle.futhark_status.specs.declared.status.Status.TheVariants.{Done, Usage, LoadFault, Text, Names, Types, Sizes, Unique, Entry, Limit, ReadFault, Input, Failure, Turns, WriteFault, Memory}
 use Rattle.futhark_core.specs.Acceptance.{Source, AcceptedTokens, AcceptedFile, UnacceptedFile}
 use Rattle.futhark_core.specs.Private.Stages.{ExplainsFile, ExplainsTokens, IsLexed, TokensRow, why_of}
 use Rattle.futhark_core.specs.Row.{Outside, Streams, ActionRow, ProgramEnded, RunRow, FrontRow, status_for}
@@ -25,6 +25,7 @@ told_why tokens (refused.Parse err) h = h
 told_why tokens (refused.NotBuilt at) h = h
 told_why tokens (refused.Names err) h = h
 told_why tokens (refused.Types err) h = h
+told_why tokens (refused.Misfit err) h = h
 told_why tokens (refused.Misused err) h = h
 told_why tokens refused.Memory h = tt
 
@@ -47,6 +48,7 @@ module _ (words : List (List ℕ)) (asked : Command) (source : Source) (old new 
   of_action Run is (Text r) row = absurd row
   of_action Run is (Names r) row = absurd row
   of_action Run is (Types r) row = absurd row
+  of_action Run is (Sizes r) row = absurd row
   of_action Run is (Unique r) row = absurd row
   of_action Run is (Entry err name) row = ended (Entry err name) (subst (λ (a : Action). ActionRow a (Entry err name) asked source before behind) (sym is) row)
   of_action Run is (Limit limit.FileBytes) row = absurd row
@@ -82,6 +84,7 @@ module _ (words : List (List ℕ)) (asked : Command) (old new : Outside) (comman
   after_file (why.NotBuilt place) why_not = front (why.NotBuilt place) why_not
   after_file (why.Names err) why_not = front (why.Names err) why_not
   after_file (why.Types err) why_not = front (why.Types err) why_not
+  after_file (why.Sizes err) why_not = front (why.Sizes err) why_not
   after_file (why.Unique err) why_not = front (why.Unique err) why_not
   after_file why.Memory why_not = record { loader = why_not; input = inl input; out = out }
 
@@ -98,6 +101,7 @@ module _ (path : List ℕ) (old new : LoaderSeen) (tokens : List Token) (lexed :
   explained (why.NotBuilt place) h = record { text = lexed.text; loaded = lexed.loaded; unaccepted = record { tokens = tokens; lexed = lexed.lexed; unaccepted = h } }
   explained (why.Names err) h = record { text = lexed.text; loaded = lexed.loaded; unaccepted = record { tokens = tokens; lexed = lexed.lexed; unaccepted = h } }
   explained (why.Types err) h = record { text = lexed.text; loaded = lexed.loaded; unaccepted = record { tokens = tokens; lexed = lexed.lexed; unaccepted = h } }
+  explained (why.Sizes err) h = record { text = lexed.text; loaded = lexed.loaded; unaccepted = record { tokens = tokens; lexed = lexed.lexed; unaccepted = h } }
   explained (why.Unique err) h = record { text = lexed.text; loaded = lexed.loaded; unaccepted = record { tokens = tokens; lexed = lexed.lexed; unaccepted = h } }
   explained (why.Lex err) h = absurd h
   explained why.Load h = absurd h

@@ -5,12 +5,12 @@ use Rattle.fut_io.specs.Outside.{AllRead, Took, TookPart}
 use Rattle.fut_scalar.specs.declared.report.FailKind.{FailKind}
 use Rattle.fut_scalar.specs.declared.report.FailKind.TheVariants as fail
 use Rattle.fut_scalar.specs.declared.report.Report.{Report}
+use Rattle.fut_scalar.specs.declared.sizes.ArgType.{ArgType}
 use Rattle.fut_scalar.specs.declared.sizes.DataType.{DataType}
 use Rattle.fut_value.specs.Data.{Datum}
 use Rattle.fut_value.specs.Values.{datum_of}
 use Rattle.fut_value.specs.declared.value.Value.{Value}
 use Rattle.fut_blocks.specs.declared.block.Program.{Program}
-use Rattle.fut_meaning.specs.Found.{unsized}
 use Rattle.fut_meaning.specs.Answers.{Answer, Gives, Fails}
 use Rattle.elab_laws.proofs.Answers.{lawful_files_have_one_answer}
 use Rattle.array_data.specs.Held.{held_all}
@@ -28,24 +28,23 @@ use Rattle.futhark_core.specs.Acceptance.{Source}
 use Rattle.module_elab.specs.Elaborated.{program_of as flat_of}
 use Rattle.unfolded_runs.specs.Results.{Are_arguments, components_of, opened}
 use Rattle.futhark_status.specs.declared.status.Status.TheVariants.{Done, WriteFault}
-use Rattle.futhark_core.specs.Inputs.{wanted}
-use Rattle.futhark_core.specs.Meaning.{Entered, Allows, Alone}
+use Rattle.futhark_core.specs.Meaning.{Entered, Allows, Alone, told_of}
 use Rattle.futhark_core.specs.Private.Stages.{Runs_for, kind_status, failed_status, input_status}
 use Rattle.futhark_core.specs.Row.{Streams, IsReady, ProgramRow, ComesTo, most_input}
 
-module _ (asked : Command) (source : Source) (e : Entered) (ready : IsReady asked source e) (old new : Streams) (params : List DataType) (same : e.params ≡ params) where
-  pub unread : (err : TextErr) (bytes : List ℕ) → AllRead old.input new.input bytes → length bytes ≤ most_input → Explains (wanted params) bytes err → new.out ≡ old.out → ProgramRow (input_status err) asked source old new
+module _ (asked : Command) (source : Source) (e : Entered) (ready : IsReady asked source e) (old new : Streams) (params : List DataType) (same : e.params ≡ params) (wants : List ArgType) (wanted_same : e.wanted ≡ wants) where
+  pub unread : (err : TextErr) (bytes : List ℕ) → AllRead old.input new.input bytes → length bytes ≤ most_input → Explains wants bytes err → new.out ≡ old.out → ProgramRow (input_status err) asked source old new
   unread text.Memory bytes read short x out = (out, inr (e, ready))
-  unread (text.BadText at) bytes read short x out = record { entered = e; ready = ready; bytes = bytes; read = read; short = short; refuses = rw same x; out = out }
-  unread (text.WrongType at) bytes read short x out = record { entered = e; ready = ready; bytes = bytes; read = read; short = short; refuses = rw same x; out = out }
-  unread (text.OutOfRange at) bytes read short x out = record { entered = e; ready = ready; bytes = bytes; read = read; short = short; refuses = rw same x; out = out }
-  unread (text.Irregular at) bytes read short x out = record { entered = e; ready = ready; bytes = bytes; read = read; short = short; refuses = rw same x; out = out }
-  unread (text.TooLarge at) bytes read short x out = record { entered = e; ready = ready; bytes = bytes; read = read; short = short; refuses = rw same x; out = out }
-  unread (text.SizeClash param have want) bytes read short x out = record { entered = e; ready = ready; bytes = bytes; read = read; short = short; refuses = rw same x; out = out }
-  unread (text.Missing param) bytes read short x out = record { entered = e; ready = ready; bytes = bytes; read = read; short = short; refuses = rw same x; out = out }
-  unread (text.Extra at) bytes read short x out = record { entered = e; ready = ready; bytes = bytes; read = read; short = short; refuses = rw same x; out = out }
+  unread (text.BadText at) bytes read short x out = record { entered = e; ready = ready; bytes = bytes; read = read; short = short; refuses = rw wanted_same x; out = out }
+  unread (text.WrongType at) bytes read short x out = record { entered = e; ready = ready; bytes = bytes; read = read; short = short; refuses = rw wanted_same x; out = out }
+  unread (text.OutOfRange at) bytes read short x out = record { entered = e; ready = ready; bytes = bytes; read = read; short = short; refuses = rw wanted_same x; out = out }
+  unread (text.Irregular at) bytes read short x out = record { entered = e; ready = ready; bytes = bytes; read = read; short = short; refuses = rw wanted_same x; out = out }
+  unread (text.TooLarge at) bytes read short x out = record { entered = e; ready = ready; bytes = bytes; read = read; short = short; refuses = rw wanted_same x; out = out }
+  unread (text.SizeClash param have want) bytes read short x out = record { entered = e; ready = ready; bytes = bytes; read = read; short = short; refuses = rw wanted_same x; out = out }
+  unread (text.Missing param) bytes read short x out = record { entered = e; ready = ready; bytes = bytes; read = read; short = short; refuses = rw wanted_same x; out = out }
+  unread (text.Extra at) bytes read short x out = record { entered = e; ready = ready; bytes = bytes; read = read; short = short; refuses = rw wanted_same x; out = out }
 
-  module _ (p : Program) (runs : Runs_for source e asked.turns p) (bytes : List ℕ) (read : AllRead old.input new.input bytes) (short : length bytes ≤ most_input) (arguments : List Value) (reads : Reads (wanted params) bytes arguments) (typed : Are_arguments params (map datum_of arguments)) where
+  module _ (p : Program) (runs : Runs_for source e asked.turns p) (bytes : List ℕ) (read : AllRead old.input new.input bytes) (short : length bytes ≤ most_input) (arguments : List Value) (reads : Reads wants bytes arguments) (typed : Are_arguments params (map datum_of arguments)) where
     abbrev pub given : List Datum
     given = map datum_of arguments
 
@@ -55,7 +54,7 @@ module _ (asked : Command) (source : Source) (e : Entered) (ready : IsReady aske
     -- where files lawfully allow an answer, it is the one that is allowed
     alone : (answer : Answer) (words : ℕ) → Allows source e asked.turns given true answer words → Alone source e asked.turns given answer
     alone answer words allows other lawful =
-        sym (lawful_files_have_one_answer source.files (flat_of source.flat) (unsized e.integer_at) asked.turns e.number given other answer lawful.0 words true lawful.1 allows.0)
+        sym (lawful_files_have_one_answer source.files (flat_of source.flat) (told_of e) asked.turns e.number given other answer lawful.0 words true lawful.1 allows.0)
 
     by_kind : (kind : FailKind) (report : Report) (path : List ℕ) → report.kind ≡ kind → ComesTo asked source old.input new.input (Fails report) → path ≡ asked.file → new.out ≡ old.out → ProgramRow (kind_status kind report path) asked source old new
     by_kind fail.Division report path k c is out = ((λ t. absurd (let z : fail.Division ≡ fail.Turns = sym k ∙ t in cc)), record { path_is = is; comes = c; out = out })
@@ -69,7 +68,7 @@ module _ (asked : Command) (source : Source) (e : Entered) (ready : IsReady aske
 
     pub unevaluated : (err : EvalErr) (path : List ℕ) → Evaluates asked.turns p given (Err err) → path ≡ asked.file → new.out ≡ old.out → ProgramRow (failed_status err path) asked source old new
     unevaluated (eval.Failed report) path (failed f m) is out =
-        by_kind report.kind report path refl (record { entered = e; ready = ready; bytes = bytes; read = read; short = short; arguments = arguments; reads = rw same reads; words = f; allows = runs.fails given of report f m; alone = alone (Fails report) f (runs.fails given of report f m) }) is out
+        by_kind report.kind report path refl (record { entered = e; ready = ready; bytes = bytes; read = read; short = short; arguments = arguments; reads = rw wanted_same reads; words = f; allows = runs.fails given of report f m; alone = alone (Fails report) f (runs.fails given of report f m) }) is out
     unevaluated eval.Memory path no_memory is out = (out, inr (e, ready))
 
     -- the components that are given, opened, are those of a result that the files allow
@@ -82,7 +81,7 @@ module _ (asked : Command) (source : Source) (e : Entered) (ready : IsReady aske
       result = (allowed vs gave).0
 
       abbrev came : ComesTo asked source old.input new.input (Gives result)
-      came = record { entered = e; ready = ready; bytes = bytes; read = read; short = short; arguments = arguments; reads = rw same reads; words = (allowed vs gave).2; allows = (allowed vs gave).3; alone = alone (Gives result) (allowed vs gave).2 (allowed vs gave).3 }
+      came = record { entered = e; ready = ready; bytes = bytes; read = read; short = short; arguments = arguments; reads = rw wanted_same reads; words = (allowed vs gave).2; allows = (allowed vs gave).3; alone = alone (Gives result) (allowed vs gave).2 (allowed vs gave).3 }
 
       text_is : items ≡ data_output (each_met e.results (components_of e.tuple result))
       text_is =

@@ -21,11 +21,14 @@ use Rattle.elab_scopes.specs.Programs.{FlatProgram}
 use Rattle.unbuilt_tokens.specs.Unbuilt.{first_unbuilt}
 use Rattle.fut_aliases.specs.declared.refusals.Broken.{Broken}
 use Rattle.unique_programs.specs.Rules.{Breaks_none, First_broken}
+use Rattle.fut_sizes.specs.Agreeing.{Refusal as Size_refusal}
+use Rattle.sized_programs.specs.Sizings.{Is_sized}
+use Rattle.sized_programs.specs.declared.misfit.Misfit.{Misfit}
 use Rattle.unique_programs.specs.declared.misuse.Misuse.{Misuse}
 use Rattle.typed_programs.specs.Mistyped.{Some_numbering}
 use Rattle.typed_programs.specs.declared.typed.TypeErr.{TypeErr}
 use Rattle.typed_programs.specs.declared.typed.TypeErr.TheVariants as types
-use Rattle.front.specs.Acceptance.{IsParsed, Resolves, Typable, definitions_of, named_file}
+use Rattle.front.specs.Acceptance.{IsParsed, Resolves, Sizable, Typable, definitions_of, named_file}
 use Rattle.front.specs.declared.refusals.NameErr.{NameErr}
 use Rattle.front.specs.declared.refusals.NameErr.TheVariants as names
 use Rattle.front.proofs.Answering.{resolves_once}
@@ -35,7 +38,7 @@ use Rattle.futhark_status.specs.declared.status.Why.TheVariants as why
 use Rattle.futhark_status.specs.declared.status.Status.{Status}
 use Rattle.futhark_status.specs.declared.status.Status.TheVariants.{Usage, Limit}
 use Rattle.futhark_core.specs.Row.{status_for}
-use Rattle.futhark_core.specs.Comes.{AlikeTypes, Built, Commanded, FileHeld, Lacks, Named, Onward, Parsed, ParserRefusal, Stage, Then, Tokenized, Typed, Unbroken, refusal_of}
+use Rattle.futhark_core.specs.Comes.{AlikeTypes, Built, Commanded, FileHeld, Lacks, Named, Onward, Parsed, ParserRefusal, Stage, Then, Sized, Tokenized, Typed, Unbroken, refusal_of}
 
 -- of all that the stage comes to this holds
 abbrev pub Holds : {A : Type 0} → Stage A → (Result A Status → Type 0) → Type 0
@@ -75,6 +78,9 @@ commanded_err words word e (Err status) p = let w = p.1 in let same : p.0 ≡ wo
 
 pub some_same : {A : Type 0} (x : A) (y : A) → Some x ≡ Some y → x ≡ y
 some_same x y e = cc
+
+none_some : {A : Type 0} (o : Option A) (x : A) → o ≡ None → o ≡ Some x → ⊥
+none_some o x e f = let same : None ≡ Some x = sym e ∙ f in cc
 
 pub held_ok : (files : Option (List (List ℕ × List ℕ))) (file text : List ℕ) → IfSome files (λ all. file_at all file ≡ Some text) → length text ≤ 4194304 →
     Settles (FileHeld files file) (Ok text)
@@ -196,6 +202,21 @@ module _ (file : List ℕ) (flat : FlatProgram) where
   pub typed_err : (err : TypeErr) → Some_numbering (λ N. Lacks err N (definitions_of flat)) → Holds (Typed file flat) (EndsAs (TypesRefusal file err))
   typed_err err some (Ok same) p = let w = typing_is_one p.0.0 some.0 p.0.1 some.1 (definitions_of flat) p.0.2.0 p.0.2.1 in absurd (lacks_or_typing some.0 some.1 (definitions_of flat) err some.2 (w.0, w.1))
   typed_err err some (Err status) p = (p.0, alike p.1.0 p.1.1 (definitions_of flat) err p.0 (lacks_is_one err some.0 p.1.0 some.1 p.1.1 (definitions_of flat) some.2) p.1.2, p.2)
+
+-- ---- sizes
+
+-- a refusal because of sizes
+abbrev pub SizesRefusal : List ℕ → Status → Type 0
+SizesRefusal file status = (err : Misfit) × (status ≡ status_for (why.Sizes err) file)
+
+module _ (file : List ℕ) (flat : FlatProgram) where
+  pub sized_ok : Some_numbering (λ N. Sizable N (definitions_of flat)) → Settles (Sized file flat) (Ok flat)
+  sized_ok some (Ok same) p = ap Ok p.1
+  sized_ok some (Err status) p = let refused = p.1 some.0 some.1 (Ok some.2.0) some.2.1 in let is = refused.1 in absurd cc
+
+  pub sized_err : (N : Numbering) → AreNames N → (refusal : Size_refusal) → Is_sized (definitions_of flat) (Err refusal) N → Holds (Sized file flat) (EndsAs (SizesRefusal file))
+  sized_err N are refusal first (Ok same) p = let has = p.0 N are (Err refusal) first in let is = has.1 in absurd cc
+  sized_err N are refusal first (Err status) p = (p.0, p.2)
 
 -- ---- rules of aliases and consumption
 

@@ -18,7 +18,7 @@ pub record Source : Type 0 where
   pub files : List Program
   pub flat : Flat
 
--- the tokens are this source, which has a typing, by which it breaks no rule of aliases and consumption
+-- the tokens are this source, which has a typing, by which it has a sizing and breaks no rule of aliases and consumption
 pub record AcceptedTokens (tokens : List Token) (source : Source) : Type 0 where
   pub acceptable : IsAcceptable tokens (program_of source.flat)
   pub files : source.files ≡ acceptable.resolved.resolves.prelude ∷ acceptable.resolved.program ∷ []
@@ -40,6 +40,7 @@ UnacceptedTokens tokens (why.Parse err) = Unaccepted tokens (refused.Parse err)
 UnacceptedTokens tokens (why.NotBuilt place) = Unaccepted tokens (refused.NotBuilt place)
 UnacceptedTokens tokens (why.Names err) = Unaccepted tokens (refused.Names err)
 UnacceptedTokens tokens (why.Types err) = Unaccepted tokens (refused.Types err)
+UnacceptedTokens tokens (why.Sizes err) = Unaccepted tokens (refused.Misfit err)
 UnacceptedTokens tokens (why.Unique err) = Unaccepted tokens (refused.Misused err)
 UnacceptedTokens tokens reason = ⊥
 

@@ -30,6 +30,10 @@ use Rattle.front.specs.declared.refusals.NameErr.TheVariants as names
 use Rattle.typed_programs.specs.Mistyped.{Some_numbering}
 use Rattle.typed_programs.specs.declared.typed.TypeErr.{TypeErr}
 use Rattle.typed_programs.specs.declared.typed.TypeErr.TheVariants as types
+use Rattle.sized_types.specs.Sizes.{Size}
+use Rattle.fut_sizes.specs.Agreeing.{Answer as Sizing_answer, Refusal as Size_refusal}
+use Rattle.sized_programs.specs.Sizings.{Is_sized}
+use Rattle.sized_programs.specs.declared.misfit.Misfit.{Misfit}
 use Rattle.fut_aliases.specs.declared.refusals.Broken.{Broken}
 use Rattle.unique_programs.specs.Rules.{First_broken}
 use Rattle.unique_programs.specs.declared.misuse.Misuse.{Misuse}
@@ -45,7 +49,6 @@ use Rattle.futhark_status.specs.declared.status.Status.{Status}
 use Rattle.futhark_status.specs.declared.status.Status.TheVariants.{Done, Usage, Entry, Limit, Input, Failure, Turns, Memory}
 use Rattle.futhark_core.specs.Acceptance.{Source}
 use Rattle.futhark_core.specs.Entering.{IsOutside}
-use Rattle.futhark_core.specs.Inputs.{wanted}
 use Rattle.futhark_core.specs.Meaning.{Entered, IsEntered, Allows, Lawfully_allows}
 use Rattle.futhark_core.specs.Row.{Outside, most_input, status_for}
 
@@ -117,6 +120,15 @@ abbrev pub Typed : Name → FlatProgram → Stage FlatProgram
 Typed file flat (Ok same) = Some_numbering (λ N. Typable N (definitions_of flat)) × (same ≡ flat)
 Typed file flat (Err status) = (err : TypeErr) × Some_numbering (λ N. Lacks err N (definitions_of flat)) × (status ≡ status_for (why.Types err) file)
 
+-- this holds of the sizing of the definitions, or of its first refusal, by each typing of theirs
+abbrev pub By_each_sizing : List Defined → (Sizing_answer (ℕ → Size) → Type 0) → Type 0
+By_each_sizing ds P = (N : Numbering) → AreNames N → (answer : Sizing_answer (ℕ → Size)) → Is_sized ds answer N → P answer
+
+-- by each typing the flat program has a sizing, or by none
+abbrev pub Sized : Name → FlatProgram → Stage FlatProgram
+Sized file flat (Ok same) = By_each_sizing (definitions_of flat) (λ answer. (sizes : ℕ → Size) × (answer ≡ Ok sizes)) × (same ≡ flat)
+Sized file flat (Err status) = (err : Misfit) × By_each_sizing (definitions_of flat) (λ answer. (refusal : Size_refusal) × (answer ≡ Err refusal)) × (status ≡ status_for (why.Sizes err) file)
+
 -- this holds of the first rule of aliases and consumption that the definitions break, if they break one, by each typing of theirs
 abbrev pub By_each_typing : List Defined → (Option Broken → Type 0) → Type 0
 By_each_typing ds P = (N : Numbering) → AreNames N → (first : Option Broken) → First_broken ds first N → P first
@@ -134,7 +146,8 @@ Accepted files file =
     Then (Parsed file tokens) (λ parsed.
     Then (Built file tokens parsed) (λ built.
     Then (Named file built) (λ flat.
-    Then (Typed file flat) (λ typed. Unbroken file typed))))))
+    Then (Typed file flat) (λ typed.
+    Then (Sized file typed) (λ sized. Unbroken file sized)))))))
 
 -- ---- what is done with it
 
@@ -171,10 +184,10 @@ Entering flat name (Err status) = (HasNoEntry flat name × (status ≡ Entry NoE
 abbrev pub Argued : FlatProgram → Name → ℕ → Option (List ℕ) → Stage Ending
 Argued flat name turns None end = ⊥
 Argued flat name turns (Some bytes) (Ok Told) = ⊥
-Argued flat name turns (Some bytes) (Ok (Ran asked)) = (asked ≡ record { flat = flat; name = name; turns = turns; input = bytes }) × (length bytes ≤ most_input) × Of_entries flat name (λ e. (values : List Value) × Reads (wanted e.params) bytes values)
-Argued flat name turns (Some bytes) (Ok (Came answer)) = (length bytes ≤ most_input) × Of_sources flat name (λ source e. (values : List Value) × Reads (wanted e.params) bytes values × Lawfully_allows source e turns (map datum_of values) answer)
+Argued flat name turns (Some bytes) (Ok (Ran asked)) = (asked ≡ record { flat = flat; name = name; turns = turns; input = bytes }) × (length bytes ≤ most_input) × Of_entries flat name (λ e. (values : List Value) × Reads e.wanted bytes values)
+Argued flat name turns (Some bytes) (Ok (Came answer)) = (length bytes ≤ most_input) × Of_sources flat name (λ source e. (values : List Value) × Reads e.wanted bytes values × Lawfully_allows source e turns (map datum_of values) answer)
 Argued flat name turns (Some bytes) (Ok (Unread status)) = ((most_input < length bytes) × (status ≡ Limit limit.InputBytes))
-    ⊎ ((err : TextErr) × (length bytes ≤ most_input) × Of_entries flat name (λ e. Refuses (wanted e.params) bytes err) × (status ≡ Input err))
+    ⊎ ((err : TextErr) × (length bytes ≤ most_input) × Of_entries flat name (λ e. Refuses e.wanted bytes err) × (status ≡ Input err))
 Argued flat name turns (Some bytes) (Err status) = ⊥
 
 -- an accepted program is run on the input, or is told to be accepted
@@ -217,7 +230,7 @@ pub record AllowedFor (asked : AskedRun) (answer : Answer) : Type 0 where
   pub entered : Entered
   pub is_entered : IsEntered source asked.name entered
   pub arguments : List Value
-  pub reads : Reads (wanted entered.params) asked.input arguments
+  pub reads : Reads entered.wanted asked.input arguments
   pub words : ℕ
   pub allows : Allows source entered asked.turns (map datum_of arguments) true answer words
 
@@ -228,11 +241,13 @@ AlikeTypes (types.FunctionPlace at) (types.FunctionPlace place) = Unit {0}
 AlikeTypes (types.Ambiguous at) (types.Ambiguous place) = Unit {0}
 AlikeTypes err other = ⊥
 
--- both are refusals of one file by the parser, because of its types, or because of a rule of aliases and consumption
+-- both are refusals of one file by the parser, because of its types, because of its sizes, or because of a rule of aliases and
+-- consumption
 abbrev pub Alike : Status → Status → Type 0
 Alike status end = ((file : Name) × ParserRefusal file status × ParserRefusal file end)
     ⊎ (((file : Name) × (err : TypeErr) × (other : TypeErr) × AlikeTypes err other × (status ≡ status_for (why.Types err) file) × (end ≡ status_for (why.Types other) file))
-    ⊎ ((file : Name) × (err : Misuse) × (other : Misuse) × (status ≡ status_for (why.Unique err) file) × (end ≡ status_for (why.Unique other) file)))
+    ⊎ (((file : Name) × (err : Misfit) × (other : Misfit) × (status ≡ status_for (why.Sizes err) file) × (end ≡ status_for (why.Sizes other) file))
+    ⊎ ((file : Name) × (err : Misuse) × (other : Misuse) × (status ≡ status_for (why.Unique err) file) × (end ≡ status_for (why.Unique other) file))))
 
 abbrev pub Agrees : Status → Result Ending Status → Type 0
 Agrees status (Ok Told) = status ≡ Done

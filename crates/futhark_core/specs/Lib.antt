@@ -1,5 +1,4 @@
 pub mod Acceptance
-pub mod Inputs
 pub mod Meaning
 pub mod Entering
 pub mod Row

@@ -28,10 +28,9 @@ use Rattle.futhark_status.specs.declared.status.LimitKind.TheVariants as limit
 use Rattle.futhark_status.specs.declared.status.Why.{Why}
 use Rattle.futhark_status.specs.declared.status.Why.TheVariants as why
 use Rattle.futhark_status.specs.declared.status.Status.{Status}
-use Rattle.futhark_status.specs.declared.status.Status.TheVariants.{Done, Usage, LoadFault, Text, Names, Types, Unique, Entry, Limit, ReadFault, Input, Failure, Turns, WriteFault, Memory}
+use Rattle.futhark_status.specs.declared.status.Status.TheVariants.{Done, Usage, LoadFault, Text, Names, Types, Sizes, Unique, Entry, Limit, ReadFault, Input, Failure, Turns, WriteFault, Memory}
 use Rattle.futhark_core.specs.Acceptance.{Source, AcceptedFile, UnacceptedFile}
 use Rattle.futhark_core.specs.Entering.{NotEntered}
-use Rattle.futhark_core.specs.Inputs.{wanted}
 use Rattle.futhark_core.specs.Meaning.{Entered, IsEntered, Allows, Alone, Answers, tops_of}
 
 -- what a run meets outside
@@ -89,6 +88,10 @@ NamesRow reason words old new path = ⊥
 abbrev pub TypesRow : Why → List (List ℕ) → Outside → Outside → List ℕ → Type 0
 TypesRow (why.Types err) words old new path = FrontRow (why.Types err) words old new path
 TypesRow reason words old new path = ⊥
+
+abbrev pub SizesRow : Why → List (List ℕ) → Outside → Outside → List ℕ → Type 0
+SizesRow (why.Sizes err) words old new path = FrontRow (why.Sizes err) words old new path
+SizesRow reason words old new path = ⊥
 
 abbrev pub UniqueRow : Why → List (List ℕ) → Outside → Outside → List ℕ → Type 0
 UniqueRow (why.Unique err) words old new path = FrontRow (why.Unique err) words old new path
@@ -148,7 +151,7 @@ pub record UnreadInput (asked : Command) (source : Source) (old new : Streams) (
   pub bytes : List ℕ
   pub read : AllRead old.input new.input bytes
   pub short : length bytes ≤ most_input
-  pub refuses : Refuses (wanted entered.params) bytes err
+  pub refuses : Refuses entered.wanted bytes err
   pub out : new.out ≡ old.out
 
 abbrev pub InputRow : Command → Source → Streams → Streams → TextErr → Type 0
@@ -164,7 +167,7 @@ pub record ComesTo (asked : Command) (source : Source) (old new : SourceSeen) (a
   pub read : AllRead old new bytes
   pub short : length bytes ≤ most_input
   pub arguments : List Value
-  pub reads : Reads (wanted entered.params) bytes arguments
+  pub reads : Reads entered.wanted bytes arguments
   pub words : ℕ
   pub allows : Allows source entered asked.turns (map datum_of arguments) true answer words
   pub alone : Alone source entered asked.turns (map datum_of arguments) answer
@@ -267,6 +270,7 @@ status_for (why.Parse err) path = Text (record { why = why.Parse err; path = pat
 status_for (why.NotBuilt place) path = Text (record { why = why.NotBuilt place; path = path })
 status_for (why.Names err) path = Names (record { why = why.Names err; path = path })
 status_for (why.Types err) path = Types (record { why = why.Types err; path = path })
+status_for (why.Sizes err) path = Sizes (record { why = why.Sizes err; path = path })
 status_for (why.Unique err) path = Unique (record { why = why.Unique err; path = path })
 status_for why.Memory path = Memory
 
@@ -277,6 +281,7 @@ RunRow (LoadFault refused) words old new = LoadRow refused.why words old new ref
 RunRow (Text refused) words old new = TextRow refused.why words old new refused.path
 RunRow (Names refused) words old new = NamesRow refused.why words old new refused.path
 RunRow (Types refused) words old new = TypesRow refused.why words old new refused.path
+RunRow (Sizes refused) words old new = SizesRow refused.why words old new refused.path
 RunRow (Unique refused) words old new = UniqueRow refused.why words old new refused.path
 RunRow (Limit limit.FileBytes) words old new = FileBytesRow words old new
 RunRow (Limit limit.Nesting) words old new = NestingRow words old new

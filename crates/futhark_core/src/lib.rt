@@ -3,6 +3,7 @@
 //! The theorem of the project is the contract of [`run_futhark`].
 #![tactic(auto)]
 
+mod entries;
 mod file;
 mod program;
 mod run;

@@ -4,25 +4,30 @@ ghost use Rattle.fut_blocks.specs.Programs.{Rising};
 ghost use Rattle.command_words.specs.Held.{command_in};
 ghost use Rattle.typed_programs.specs.Known.{Is_known};
 ghost use Rattle.module_elab.specs.Elaborated.{program_of as flat_of};
-ghost use Rattle.unfolded_runs.specs.Claims.{Is_usable};
+ghost use Rattle.entry_sizes.specs.Wanted.{Are_wanted};
+ghost use Rattle.fut_typing.specs.Program.{program_of as typing_of};
+ghost use Rattle.sized_programs.specs.Sizings.{Has_sizing};
+ghost use Rattle.sizing_tables.specs.Claims.{Is_resolved};
+ghost use Rattle.type_infer.specs.Inferring.{Told_by};
 ghost use Rattle.elab_scopes.specs.Programs.{resolve_program};
 ghost use Rattle.futhark_core.specs.Acceptance.{Source as TheSource};
-ghost use Rattle.futhark_core.specs.Meaning.{Entered, IsEntered, IsTypedAs};
+ghost use Rattle.futhark_core.specs.Meaning.{Entered};
+ghost use Rattle.futhark_core.specs.Private.Finding.{Is_found};
 ghost use Rattle.futhark_core.specs.Private.Stages.{IsUnentered, Never_wrong_for, Runs_for, unprepared};
 ghost use Rattle.futhark_core.specs.Row.{ActionRow, CheckRow, IsReady, ProgramRow};
 
+use crate::entries::{Entry, FindErr, find_entry};
 use crate::statuses::{failed_status, input_status};
 use crate::values::{print_result, read_data};
 use bumpalo::Bump;
 use command_words::{Action, Command};
-use front::{Accepted, entry_at};
+use front::SizedProgram;
 use fut_blocks::Program;
 use fut_eval::eval;
 use fut_io::{ReadErr, Sink, Source, read_all, write_all};
-use fut_scalar::{BindId, Name};
+use fut_scalar::Name;
 use futhark_status::{EntryErr, LimitKind, Status};
 use std::alloc::Global;
-use typed_programs::{EntryType, EntryTypeErr, entry_type};
 use unfolded_runs::{PrepareErr, prepare};
 
 /// The most bytes of the input.
@@ -33,15 +38,16 @@ fn run_ready<S: Source, K: Sink>(
     alloc: Global,
     command: &Command<'_>,
     program: &Program<'_>,
-    entry: &EntryType,
+    entry: &Entry,
     path: Name,
     input: &mut S,
     out: &mut K,
 ) -> Status
     requires path { path ≡ command.now.file.now }
     requires rising { Rising program.now }
-    requires never_wrong { Never_wrong_for entry.now.params command.now.turns program.now }
-    ensures { (source : TheSource) (e : Entered) → e.params ≡ entry.now.params → e.tuple ≡ entry.now.tuple → e.results ≡ entry.now.results → IsReady (command_in command.now) source e → Runs_for source e command.now.turns program.now → ProgramRow result (command_in command.now) source
+    requires wanted { Are_wanted entry.now.ty.params entry.now.wanted }
+    requires never_wrong { Never_wrong_for entry.now.ty.params command.now.turns program.now }
+    ensures { (source : TheSource) (e : Entered) → e.params ≡ entry.now.ty.params → e.wanted ≡ entry.now.wanted → e.tuple ≡ entry.now.ty.tuple → e.results ≡ entry.now.ty.results → IsReady (command_in command.now) source e → Runs_for source e command.now.turns program.now → ProgramRow result (command_in command.now) source
         (record { input = S.seen input.old; out = K.seen out.old })
         (record { input = S.seen input.new; out = K.seen out.new }) }
 {
@@ -53,7 +59,7 @@ fn run_ready<S: Source, K: Sink>(
         },
         Err(ReadErr::Memory) => return Status::Memory,
     };
-    let arguments = match read_data(alloc, entry.params.as_slice(), bytes.as_slice()) {
+    let arguments = match read_data(alloc, &entry.wanted, bytes.as_slice()) {
         Ok(arguments) => arguments,
         Err(err) => return input_status(err),
     };
@@ -63,8 +69,8 @@ fn run_ready<S: Source, K: Sink>(
     };
     let Ok(text) = print_result(
         alloc,
-        entry.tuple,
-        entry.results.as_slice(),
+        entry.ty.tuple,
+        entry.ty.results.as_slice(),
         results.as_slice(),
     ) else {
         return Status::Memory;
@@ -95,23 +101,23 @@ fn run_entered<'a, S: Source, K: Sink>(
     alloc: Global,
     bump: &'a Bump,
     command: &Command<'_>,
-    accepted: &Accepted<'a>,
-    number: BindId,
-    entry: &EntryType,
+    program: &SizedProgram<'a>,
+    entry: &Entry,
     path: Name,
     input: &mut S,
     out: &mut K,
 ) -> Status
     requires path { path ≡ command.now.file.now }
-    requires known { Is_known accepted.now }
-    requires usable { Is_usable accepted.now.flat accepted.now.inference number entry.now.params entry.now.tuple entry.now.results }
-    ensures { (source : TheSource) → source.flat ≡ accepted.now.flat → resolve_program source.files ≡ Ok (flat_of source.flat) → ((e : Entered) → e.number ≡ number.0 → IsTypedAs source e → IsEntered source command.now.entry.now e)
-        → ProgramRow result (command_in command.now) source
+    requires known { Is_known program.now.accepted.now }
+    requires sized { Told_by (Has_sizing (typing_of program.now.accepted.now.flat) program.now.sizing.now) program.now.accepted.now.inference }
+    requires resolved { Is_resolved program.now.accepted.now.flat }
+    requires found { Is_found program.now.accepted.now program.now.sizing.now command.now.entry.now entry.now }
+    ensures { (source : TheSource) → source.flat ≡ program.now.accepted.now.flat → resolve_program source.files ≡ Ok (flat_of source.flat) → ProgramRow result (command_in command.now) source
         (record { input = S.seen input.old; out = K.seen out.old })
         (record { input = S.seen input.new; out = K.seen out.new }) }
 {
-    let params = entry.params.as_slice();
-    match prepare(bump, accepted, number, params) {
+    let params = entry.ty.params.as_slice();
+    match prepare(alloc, bump, program, entry.number, params) {
         Ok(program) => run_ready(alloc, command, &program, entry, path, input, out),
         Err(err) => unprepared(err),
     }
@@ -132,29 +138,23 @@ fn run_program<'a, S: Source, K: Sink>(
     alloc: Global,
     bump: &'a Bump,
     command: &Command<'_>,
-    accepted: &Accepted<'a>,
+    program: &SizedProgram<'a>,
     path: Name,
     input: &mut S,
     out: &mut K,
 ) -> Status
     requires path { path ≡ command.now.file.now }
-    requires known { Is_known accepted.now }
-    ensures { (source : TheSource) → source.flat ≡ accepted.now.flat → resolve_program source.files ≡ Ok (flat_of source.flat) → ProgramRow result (command_in command.now) source
+    requires known { Is_known program.now.accepted.now }
+    requires sized { Told_by (Has_sizing (typing_of program.now.accepted.now.flat) program.now.sizing.now) program.now.accepted.now.inference }
+    requires resolved { Is_resolved program.now.accepted.now.flat }
+    ensures { (source : TheSource) → source.flat ≡ program.now.accepted.now.flat → resolve_program source.files ≡ Ok (flat_of source.flat) → ProgramRow result (command_in command.now) source
         (record { input = S.seen input.old; out = K.seen out.old })
         (record { input = S.seen input.new; out = K.seen out.new }) }
 {
-    let Some(at) = entry_at(&accepted.flat, command.entry) else {
-        return unentered(alloc, EntryErr::NoEntry, command.entry);
-    };
-    match entry_type(alloc, &accepted.flat, &accepted.inference, at) {
-        Ok(entry) => {
-            let number = accepted.flat.definitions[at].bind;
-            run_entered(
-                alloc, bump, command, accepted, number, &entry, path, input, out,
-            )
-        }
-        Err(EntryTypeErr::Outside) => unentered(alloc, EntryErr::OutsideProfile, command.entry),
-        Err(EntryTypeErr::Memory) => Status::Memory,
+    match find_entry(alloc, bump, program, command.entry) {
+        Ok(entry) => run_entered(alloc, bump, command, program, &entry, path, input, out),
+        Err(FindErr::Entry(err)) => unentered(alloc, err, command.entry),
+        Err(FindErr::Memory) => Status::Memory,
     }
 }
 
@@ -176,19 +176,21 @@ pub fn act<'a, S: Source, K: Sink>(
     alloc: Global,
     bump: &'a Bump,
     command: &Command<'_>,
-    accepted: &Accepted<'a>,
+    program: &SizedProgram<'a>,
     path: Name,
     input: &mut S,
     out: &mut K,
 ) -> Status
     requires path { path ≡ command.now.file.now }
-    requires known { Is_known accepted.now }
-    ensures { (source : TheSource) → source.flat ≡ accepted.now.flat → resolve_program source.files ≡ Ok (flat_of source.flat) → ActionRow command.now.action result (command_in command.now) source
+    requires known { Is_known program.now.accepted.now }
+    requires sized { Told_by (Has_sizing (typing_of program.now.accepted.now.flat) program.now.sizing.now) program.now.accepted.now.inference }
+    requires resolved { Is_resolved program.now.accepted.now.flat }
+    ensures { (source : TheSource) → source.flat ≡ program.now.accepted.now.flat → resolve_program source.files ≡ Ok (flat_of source.flat) → ActionRow command.now.action result (command_in command.now) source
         (record { input = S.seen input.old; out = K.seen out.old })
         (record { input = S.seen input.new; out = K.seen out.new }) }
 {
     match command.action {
-        Action::Run => run_program(alloc, bump, command, accepted, path, input, out),
+        Action::Run => run_program(alloc, bump, command, program, path, input, out),
         Action::Check => tell_accepted(&*input, out),
     }
 }

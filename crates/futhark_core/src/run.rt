@@ -42,7 +42,7 @@ fn run_tokens<S: Source, K: Sink>(
     let bump = Bump::new(alloc);
     bump.set_allocation_limit(Some(MOST_BYTES));
     match accept(alloc, &bump, &prelude, tokens) {
-        Ok(accepted) => act(alloc, &bump, command, accepted, path, input, out),
+        Ok(program) => act(alloc, &bump, command, &program, path, input, out),
         Err(refused) => status_of(why_of(refused), path),
     }
 }

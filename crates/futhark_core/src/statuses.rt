@@ -27,6 +27,7 @@ pub fn status_of(why: Why, path: Name) -> Status
         }
         Why::Names(_) => Status::Names(Refused { why, path }),
         Why::Types(_) => Status::Types(Refused { why, path }),
+        Why::Sizes(_) => Status::Sizes(Refused { why, path }),
         Why::Unique(_) => Status::Unique(Refused { why, path }),
         Why::Memory => Status::Memory,
     }
@@ -41,6 +42,7 @@ pub fn why_of(refused: NotAccepted) -> Why
         NotAccepted::NotBuilt { at } => Why::NotBuilt { at },
         NotAccepted::Names(err) => Why::Names(err),
         NotAccepted::Types(err) => Why::Types(err),
+        NotAccepted::Misfit(err) => Why::Sizes(err),
         NotAccepted::Misused(err) => Why::Unique(err),
         NotAccepted::Memory => Why::Memory,
     }

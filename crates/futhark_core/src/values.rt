@@ -1,5 +1,6 @@
 // The input as data of a run, and the data of a result as text.
 ghost use Rattle.std.specs.Prelude.{◌≡◌, List as Values, IfOk, IfErr, map};
+ghost use Rattle.fut_scalar.specs.declared.sizes.DataType.{DataType as Sort};
 ghost use Rattle.fut_value.specs.Values.{datum_of};
 ghost use Rattle.fut_value.specs.declared.value.Value.{Value as TheValue};
 ghost use Rattle.array_data.specs.Held.{held_all};
@@ -7,57 +8,20 @@ ghost use Rattle.data_values.specs.Met.{each_met};
 ghost use Rattle.value_text.specs.Arguments.{Explains, Reads};
 ghost use Rattle.value_text.specs.Printing.{data_output};
 ghost use Rattle.unfolded_runs.specs.Results.{Are_arguments, opened};
-ghost use Rattle.futhark_core.specs.Inputs.{any_sizes, of_any_size, wanted};
+ghost use Rattle.entry_sizes.specs.Wanted.{Are_wanted};
 
 use array_data::Data;
 use data_values::{data_of_all, values_of};
-use fut_scalar::{ArgType, DataType, Dim, List, NoMemory, NodeId};
+use fut_scalar::{ArgType, DataType, List, NoMemory};
 use std::alloc::Global;
 use value_text::{TextErr, print_values, read_args};
 
-/// Sizes of which nothing is said.
-#[tactic(auto, using(crate::proofs::Reading::one_more))]
-fn any_sizes(alloc: Global, rank: u32) -> Result<List<Dim>, NoMemory>
-    ensures { IfOk result (λ dims. dims ≡ any_sizes rank) }
+/// The arguments that a text reads as, one for each that is wanted, as data of a run.
+pub fn read_data(alloc: Global, wanted: &List<ArgType>, text: &[u8]) -> Result<List<Data>, TextErr>
+    ensures read { IfOk result (λ all. (values : Values TheValue) × Reads wanted.now text.now values × (held_all all ≡ map datum_of values) × ((types : Values Sort) → Are_wanted types wanted.now → Are_arguments types (map datum_of values))) }
+    ensures refused { IfErr result (Explains wanted.now text.now) }
 {
-    let mut dims = List::new(alloc);
-    for _ in 0..rank {
-        dims.push(Dim::Unknown(NodeId { file: 0, number: 0 }, 0))?;
-    }
-    Ok(dims)
-}
-
-/// What is wanted for a parameter: a value of its type, of any sizes.
-fn of_any_size(alloc: Global, ty: DataType) -> Result<ArgType, NoMemory>
-    ensures { IfOk result (λ arg. arg ≡ of_any_size ty) }
-{
-    Ok(ArgType {
-        elem: ty.elem,
-        dims: any_sizes(alloc, ty.rank)?,
-        name: None,
-    })
-}
-
-/// What is wanted of the input.
-fn wanted(alloc: Global, types: &[DataType]) -> Result<List<ArgType>, NoMemory>
-    ensures { IfOk result (λ args. args ≡ wanted types.now) }
-{
-    let mut args = List::new(alloc);
-    for ty in types {
-        args.push(of_any_size(alloc, *ty)?)?;
-    }
-    Ok(args)
-}
-
-/// The arguments that a text reads as, one for each parameter, as data of a run.
-pub fn read_data(alloc: Global, types: &[DataType], text: &[u8]) -> Result<List<Data>, TextErr>
-    ensures read { IfOk result (λ all. (values : Values TheValue) × Reads (wanted types.now) text.now values × (held_all all ≡ map datum_of values) × Are_arguments types.now (map datum_of values)) }
-    ensures refused { IfErr result (Explains (wanted types.now) text.now) }
-{
-    let Ok(args) = wanted(alloc, types) else {
-        return Err(TextErr::Memory);
-    };
-    let values = match read_args(alloc, &args, text) {
+    let values = match read_args(alloc, wanted, text) {
         Ok(values) => values,
         Err(err) => return Err(err),
     };

@@ -2,7 +2,7 @@
 use Rattle.std.specs.Prelude.{◌≡◌, ◌⊎◌, ℕ, List, decimal}
 use Rattle.std.specs.Fmt.{signed_decimal}
 use Rattle.fut_io.specs.Outside.{SinkSeen, Took, TookPart}
-use Rattle.futhark_status.specs.Status.{Line, Nothing, Said, Counted, Clashing, Named, Placed, PlacedTwice, line_of}
+use Rattle.futhark_status.specs.Status.{Line, Nothing, Said, Counted, Clashing, Named, Placed, PlacedTwice, Differing, line_of}
 use Rattle.futhark_status.specs.declared.line.Line.{Line as HeldLine}
 use Rattle.futhark_status.specs.declared.line.Line.TheVariants as held
 use Rattle.futhark_status.specs.declared.pieces.Piece.{Piece}
@@ -24,6 +24,7 @@ line_in (held.Clashing param have want) = Clashing param have want
 line_in (held.Named before name behind) = Named before.now name.now behind.now
 line_in (held.Placed path place before name behind) = Placed path.now place before.now name.now behind.now
 line_in (held.PlacedTwice path place name said other) = PlacedTwice path.now place name.now said.now other
+line_in (held.Differing path place left right) = Differing path.now place (piece_bytes left) (piece_bytes right)
 
 -- the line came on err whole, or a prefix of it and a fault of err
 abbrev pub Told : SinkSeen → SinkSeen → List ℕ → Type 0

@@ -13,6 +13,10 @@ use Rattle.front.specs.declared.refusals.NameErr.{NameErr}
 use Rattle.front.specs.declared.refusals.NameErr.TheVariants as names
 use Rattle.typed_programs.specs.declared.typed.TypeErr.{TypeErr}
 use Rattle.typed_programs.specs.declared.typed.TypeErr.TheVariants as types
+use Rattle.sized_programs.specs.declared.misfit.Misfit.{Misfit}
+use Rattle.sized_programs.specs.declared.misfit.Misfit.TheVariants as misfit
+use Rattle.sized_programs.specs.declared.misfit.Shown.{Shown}
+use Rattle.sized_programs.specs.declared.misfit.Shown.TheVariants as shown
 use Rattle.unique_programs.specs.declared.misuse.Misuse.{Misuse}
 use Rattle.unique_programs.specs.declared.misuse.Misuse.TheVariants as misuse
 use Rattle.futhark_status.specs.declared.status.EntryErr.{EntryErr}
@@ -24,7 +28,7 @@ use Rattle.futhark_status.specs.declared.status.Why.TheVariants as why
 use Rattle.futhark_status.specs.declared.status.LimitKind.{LimitKind}
 use Rattle.futhark_status.specs.declared.status.LimitKind.TheVariants as limit
 use Rattle.futhark_status.specs.declared.status.Status.{Status}
-use Rattle.futhark_status.specs.declared.status.Status.TheVariants.{Done, Usage, LoadFault, Text, Names, Types, Unique, Entry, Limit, ReadFault, Input, Failure, Turns, WriteFault, Memory}
+use Rattle.futhark_status.specs.declared.status.Status.TheVariants.{Done, Usage, LoadFault, Text, Names, Types, Sizes, Unique, Entry, Limit, ReadFault, Input, Failure, Turns, WriteFault, Memory}
 
 abbrev pub code_of : Status → ℕ
 code_of Done = 0
@@ -33,6 +37,7 @@ code_of (LoadFault refused) = 2
 code_of (Text refused) = 3
 code_of (Names refused) = 4
 code_of (Types refused) = 5
+code_of (Sizes refused) = 6
 code_of (Unique refused) = 7
 code_of (Entry err name) = 8
 code_of (Limit what) = 9
@@ -58,6 +63,8 @@ pub data Line : Type 0 where
   Placed : List ℕ → Place → List ℕ → List ℕ → List ℕ → Line
   -- what is said of a name at a place of a file, with another place of it behind
   PlacedTwice : (path : List ℕ) → Place → (name said : List ℕ) → Place → Line
+  -- two sizes that differ at a place of a file
+  Differing : (path : List ℕ) → Place → (left right : List ℕ) → Line
 
 -- parts one after another
 unfoldable pub joined : List (List ℕ) → List ℕ
@@ -84,6 +91,8 @@ bytes_of (Placed path place before name behind) =
     joined (beginning ∷ path_at place path ∷ codes ":" ∷ decimal place.line ∷ codes ":" ∷ decimal place.column ∷ codes ": " ∷ before ∷ name ∷ behind ∷ newline ∷ [])
 bytes_of (PlacedTwice path place name said other) =
     joined (beginning ∷ path_at place path ∷ codes ":" ∷ decimal place.line ∷ codes ":" ∷ decimal place.column ∷ codes ": " ∷ name ∷ said ∷ decimal other.line ∷ codes ":" ∷ decimal other.column ∷ newline ∷ [])
+bytes_of (Differing path place left right) =
+    joined (beginning ∷ path_at place path ∷ codes ":" ∷ decimal place.line ∷ codes ":" ∷ decimal place.column ∷ codes ": sizes differ: " ∷ left ∷ codes " and " ∷ right ∷ newline ∷ [])
 
 -- without a name
 abbrev pub at_place : List ℕ → Place → List ℕ → Line
@@ -112,6 +121,18 @@ types_line (types.FunctionPlace place) path = at_place path place (codes "a func
 types_line (types.Ambiguous place) path = at_place path place (codes "ambiguous type")
 types_line types.Memory path = Nothing
 
+-- a size is shown as its number, its name, or `unknown`
+abbrev pub size_text : Shown → List ℕ
+size_text (shown.Number n) = decimal n
+size_text (shown.Named name) = name
+size_text shown.Unknown = codes "unknown"
+
+abbrev pub misfit_line : Misfit → List ℕ → Line
+misfit_line (misfit.SizesDiffer left right place) path = Differing path place (size_text left) (size_text right)
+misfit_line (misfit.Escapes place) path = at_place path place (codes "a size escapes")
+misfit_line (misfit.Irregular place) path = at_place path place (codes "irregular")
+misfit_line misfit.Memory path = Nothing
+
 abbrev pub misuse_line : Misuse → List ℕ → Line
 misuse_line (misuse.Consumed name place used) path = PlacedTwice path used name (codes " is used after it was consumed at ") place
 misuse_line (misuse.NotConsumable name place) path = Placed path place [] name (codes " may not be consumed")
@@ -126,6 +147,7 @@ why_line (why.Parse err) path = parse_line err path
 why_line (why.NotBuilt place) path = at_place path place (codes "not built yet")
 why_line (why.Names err) path = names_line err path
 why_line (why.Types err) path = types_line err path
+why_line (why.Sizes err) path = misfit_line err path
 why_line (why.Unique err) path = misuse_line err path
 why_line why.FileBytes path = Nothing
 why_line why.Memory path = Nothing
@@ -170,6 +192,7 @@ line_form (LoadFault refused) = why_line refused.why refused.path
 line_form (Text refused) = why_line refused.why refused.path
 line_form (Names refused) = why_line refused.why refused.path
 line_form (Types refused) = why_line refused.why refused.path
+line_form (Sizes refused) = why_line refused.why refused.path
 line_form (Unique refused) = why_line refused.why refused.path
 line_form (Entry err name) = entry_line err name
 line_form (Limit what) = limit_line what

@@ -5,7 +5,7 @@ mod line;
 mod pieces;
 mod status;
 
-pub use front::{Misuse, NameErr, TypeErr};
+pub use front::{Misfit, Misuse, NameErr, Shown, TypeErr};
 pub use line::report;
 pub use status::{EntryErr, LimitKind, Refused, Status, Why, code};
 pub use value_text::TextErr;

@@ -1,11 +1,11 @@
 // The line of a status on err.
 ghost use Rattle.std.specs.Prelude.{◌≡◌, [], codes};
 ghost use Rattle.futhark_status.specs.Report.{line_in, Reported, Told};
-ghost use Rattle.futhark_status.specs.Status.{entry_line, input_line, kind_text, lex_line, limit_line, line_form, line_of, misuse_line, names_line, parse_line, Placed, types_line, why_line};
+ghost use Rattle.futhark_status.specs.Status.{entry_line, input_line, kind_text, lex_line, limit_line, line_form, line_of, misfit_line, misuse_line, names_line, parse_line, Placed, types_line, why_line};
 
-use crate::pieces::write_line;
+use crate::pieces::{Piece, size_piece, write_line};
 use crate::status::{EntryErr, LimitKind, Refused, Status, Why};
-use front::{Misuse, NameErr, TypeErr};
+use front::{Misfit, Misuse, NameErr, TypeErr};
 use fut_ast::form_name;
 use fut_io::Sink;
 use fut_lexer::LexErr;
@@ -29,6 +29,8 @@ pub enum Line<'a> {
     Placed(&'a [u8], Place, &'a [u8], &'a [u8], &'a [u8]),
     /// What is said of a name at a place of a file, with another place of it behind.
     PlacedTwice(&'a [u8], Place, &'a [u8], &'a [u8], Place),
+    /// Two sizes that differ at a place of a file.
+    Differing(&'a [u8], Place, Piece<'a>, Piece<'a>),
 }
 
 fn lex_line(reason: LexErr, path: &[u8]) -> Line<'_>
@@ -82,6 +84,19 @@ fn types_line(reason: TypeErr, path: &[u8]) -> Line<'_>
         }
         TypeErr::Ambiguous { at } => Line::Placed(path, at, b"ambiguous type", b"", b""),
         TypeErr::Memory => Line::Nothing,
+    }
+}
+
+fn misfit_line<'a>(reason: &'a Misfit, path: &'a [u8]) -> Line<'a>
+    ensures { line_in result ≡ misfit_line reason.now path.now }
+{
+    match reason {
+        Misfit::SizesDiffer { left, right, at } => {
+            Line::Differing(path, *at, size_piece(left), size_piece(right))
+        }
+        Misfit::Escapes { at } => Line::Placed(path, *at, b"a size escapes", b"", b""),
+        Misfit::Irregular { at } => Line::Placed(path, *at, b"irregular", b"", b""),
+        Misfit::Memory => Line::Nothing,
     }
 }
 
@@ -142,6 +157,7 @@ fn why_line(refused: &Refused) -> Line<'_>
         Why::NotBuilt { at } => Line::Placed(path, *at, b"not built yet", b"", b""),
         Why::Names(reason) => names_line(reason, path),
         Why::Types(reason) => types_line(*reason, path),
+        Why::Sizes(reason) => misfit_line(reason, path),
         Why::Unique(reason) => misuse_line(reason, path),
         Why::FileBytes => Line::Nothing,
         Why::Memory => Line::Nothing,
@@ -226,6 +242,7 @@ fn line_form(status: &Status) -> Line<'_>
         Status::Text(refused) => why_line(refused),
         Status::Names(refused) => why_line(refused),
         Status::Types(refused) => why_line(refused),
+        Status::Sizes(refused) => why_line(refused),
         Status::Unique(refused) => why_line(refused),
         Status::Entry(reason, name) => entry_line(*reason, name),
         Status::Limit { what } => limit_line(*what),

@@ -3,9 +3,10 @@ ghost use Rattle.std.specs.Prelude.{flat_map, map, OnOk, OnErr};
 ghost use Rattle.fut_io.specs.Outside.{Took, TookPart};
 ghost use Rattle.futhark_status.specs.Report.{line_in, piece_bytes};
 ghost use Rattle.std.specs.Prelude.{◌∷◌, ◌≡◌, [], codes, decimal};
-ghost use Rattle.futhark_status.specs.Status.{beginning, bytes_of, joined, newline, path_at, Placed, PlacedTwice};
+ghost use Rattle.futhark_status.specs.Status.{beginning, bytes_of, joined, newline, path_at, size_text, Differing, Placed, PlacedTwice};
 
 use crate::line::Line;
+use front::Shown;
 use fut_io::{Failed, Sink, write_all};
 use fut_scalar::Place;
 use itoa::Buffer;
@@ -125,6 +126,46 @@ fn write_placed_twice<'a, E: Sink>(
     )
 }
 
+/// Writes what is said of two sizes that differ at a place of a file.
+fn write_differing<'a, E: Sink>(
+    err: &mut E,
+    path: &'a [u8],
+    place: Place,
+    left: Piece<'a>,
+    right: Piece<'a>,
+) -> Result<(), Failed>
+    ensures ok { OnOk result (Took (E.seen err.old) (E.seen err.new) (bytes_of (Differing path.now place (piece_bytes left.entry) (piece_bytes right.entry)))) }
+    ensures failed { OnErr result (TookPart (E.seen err.old) (E.seen err.new) (bytes_of (Differing path.now place (piece_bytes left.entry) (piece_bytes right.entry)))) }
+{
+    write_pieces(
+        err,
+        &[
+            Piece::Text(b"futhark: "),
+            Piece::Text(path_at(place, path)),
+            Piece::Text(b":"),
+            Piece::Number(u64::from(place.line)),
+            Piece::Text(b":"),
+            Piece::Number(u64::from(place.column)),
+            Piece::Text(b": sizes differ: "),
+            left,
+            Piece::Text(b" and "),
+            right,
+            Piece::Text(b"\n"),
+        ],
+    )
+}
+
+/// A size as it is shown.
+pub fn size_piece(size: &Shown) -> Piece<'_>
+    ensures { piece_bytes result ≡ size_text size.now }
+{
+    match size {
+        Shown::Number(number) => Piece::Number(*number),
+        Shown::Named(name) => Piece::Text(name.as_str().as_bytes()),
+        Shown::Unknown => Piece::Text(b"unknown"),
+    }
+}
+
 /// Writes texts around one piece.
 fn write_around<'a, E: Sink>(
     err: &mut E,
@@ -198,5 +239,6 @@ pub fn write_line<'a, E: Sink>(err: &mut E, line: Line<'a>) -> Result<(), Failed
         Line::PlacedTwice(path, place, name, said, other) => {
             write_placed_twice(err, path, place, name, said, other)
         }
+        Line::Differing(path, place, left, right) => write_differing(err, path, place, left, right),
     }
 }

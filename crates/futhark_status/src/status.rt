@@ -2,7 +2,7 @@
 ghost use Rattle.std.specs.Prelude.{◌≡◌};
 ghost use Rattle.futhark_status.specs.Status.{code_of};
 
-use front::{Misuse, NameErr, TypeErr};
+use front::{Misfit, Misuse, NameErr, TypeErr};
 use fut_lexer::LexErr;
 use fut_parser::ParseErr;
 use fut_scalar::{Name, Place, Report};
@@ -18,6 +18,8 @@ pub enum Why {
     NotBuilt { at: Place },
     Names(NameErr),
     Types(TypeErr),
+    /// The program has no sizing.
+    Sizes(Misfit),
     /// The program breaks a rule of aliases and consumption.
     Unique(Misuse),
     /// The file has more than 4,194,304 bytes.
@@ -37,7 +39,7 @@ pub struct Refused {
 pub enum EntryErr {
     /// No declaration `entry` of this name stands directly in the named file; and for `main` no `def` or `let` either.
     NoEntry,
-    /// It has type parameters, or its type is not of scalars to a scalar or to a tuple of two or more scalars.
+    /// It has type parameters, or its type or a size of a parameter is not of the form of an entry.
     OutsideProfile,
 }
 
@@ -64,6 +66,7 @@ pub enum Status {
     Text(Refused),
     Names(Refused),
     Types(Refused),
+    Sizes(Refused),
     Unique(Refused),
     /// The program has no entry of this name, or one of another form.
     Entry(EntryErr, Name),
@@ -90,6 +93,7 @@ pub fn code(status: &Status) -> u8
         Status::Text(_) => 3,
         Status::Names(_) => 4,
         Status::Types(_) => 5,
+        Status::Sizes(_) => 6,
         Status::Unique(_) => 7,
         Status::Entry(_, _) => 8,
         Status::Limit { what: _ } => 9,

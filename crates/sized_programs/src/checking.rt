@@ -5,6 +5,8 @@ ghost use Rattle.fut_typing.specs.Program.{program_of};
 ghost use Rattle.flat_numbers.specs.Places.{program_places};
 ghost use Rattle.type_infer.specs.Inferring.{Infers, Told_by};
 ghost use Rattle.typed_programs.specs.Mistyped.{Some_numbering};
+ghost use Rattle.size_arena.specs.Trees.{size_of};
+ghost use Rattle.size_program.specs.Tables.{node_at};
 ghost use Rattle.sized_programs.specs.Sizings.{Has_sizing};
 ghost use Rattle.sized_programs.specs.Misfits.{Misfits};
 ghost use Rattle.sized_programs.specs.Prepared.{Is_prepared};
@@ -17,12 +19,13 @@ use bumpalo::Bump;
 use fut_flat::Flat;
 use fut_scalar::{List, NoMemory};
 use fut_types::ShapeTable;
-use size_arena::{SizeErr, SizeTree};
+use size_arena::{SizeErr, SizeTree, Variable, hole};
 use size_check::check;
 use size_program::{Program, Tables};
 use std::alloc::Global;
 use std::collections::HashMap;
 use type_scopes::Inference;
+use typed_programs::Accepted;
 use unique_programs::count_numbers;
 
 /// The sized types of a program's nodes.
@@ -30,6 +33,31 @@ use unique_programs::count_numbers;
 pub struct Sizing<'a> {
     /// By the numbers of nodes. A node without one has a type variable of its own.
     pub nodes: List<Option<&'a SizeTree<'a>>>,
+}
+
+/// A program that is accepted by its types and its sizes: what typing tells of it, and the sized types of its nodes.
+#[derive(Clone, Copy)]
+pub struct SizedProgram<'a> {
+    pub accepted: &'a Accepted<'a>,
+    pub sizing: &'a Sizing<'a>,
+}
+
+/// The sized type of a node. One without has a type variable of its own.
+#[tactic(auto, using(crate::proofs::Nodes::nodes))]
+pub fn size_at<'a>(
+    sizing: &Sizing<'a>,
+    node: u32,
+    bump: &'a Bump,
+) -> Result<&'a SizeTree<'a>, NoMemory>
+    ensures { IfOk result (λ t. size_of t.now ≡ node_at sizing.now.nodes node) }
+{
+    let at = node as usize;
+    if at < sizing.nodes.len() {
+        if let Some(size) = sizing.nodes.as_slice()[at] {
+            return Ok(size);
+        }
+    }
+    hole(bump, Variable::Inferred(node))
 }
 
 /// What the pass over sizes says of nodes, without what it keeps of loops.

@@ -14,13 +14,12 @@ use Rattle.fut_flat.specs.declared.pat.Pat.{Pat}
 use Rattle.fut_flat.specs.declared.prim.Ref.{Ref}
 use Rattle.fut_flat.specs.declared.prim.Ref.TheVariants as ref
 use Rattle.fut_flat.specs.declared.program.Definition.{Definition}
-use Rattle.fut_flat.specs.Terms.{Parameter}
-use Rattle.fut_flat.specs.Erased.{FlatTerm, Row, operation_of, pattern_of, patterns, parameters, terms, lets, term_of}
+use Rattle.fut_flat.specs.Erased.{FlatTerm, Row, operation_of, pattern_of, patterns, terms, lets, term_of}
 use Rattle.fut_flat.proofs.ErasedForms.{row_of, turns_of, row_is, loop_is, term_use, term_strict, term_lambda, term_apply, term_lets, term_if, term_loop, turns_counted, turns_over, turns_while}
 use Rattle.fut_typing.specs.Program.{defined}
-use Rattle.type_soundness.specs.Meant.{how_many, Has_parameter, No_sizes, Operation_meant, Use_meant, Meant, All_meant}
-use Rattle.type_soundness.specs.Programs.{Definitions_meant}
-use Rattle.typed_programs.specs.Trees.{any, Term_built, Turns_built, Act_built, Exp_built, Heads_built, Let_built, Loop_built, Loop_turns_built, Definition_built}
+use Rattle.type_soundness.specs.Meant.{how_many, Has_parameter, Operation_meant, Use_meant}
+use Rattle.type_soundness.specs.Formed.{Formed, All_formed, Definitions_formed}
+use Rattle.typed_programs.specs.Trees.{any, Term_built, Turns_built, Act_built, Exp_built, Let_built, Loop_built, Loop_turns_built, Definition_built}
 
 -- the first of a list, and the others
 abbrev pub first_of : {X : Type 0} (P : X → Type 0) (x : X) (xs : List X) → All P (x ∷ xs) → P x
@@ -33,7 +32,7 @@ pub all_more : {X : Type 0} (P : X → Type 0) (x : X) (xs : List X) → P x →
 all_more P x xs h hs zero d lt = h
 all_more P x xs h hs (suc k) d lt = hs k d (omega arith)
 
-parts_built : (es : List Exp) → All Exp_built es → All_meant any (terms (map term_of es))
+parts_built : (es : List Exp) → All Exp_built es → All_formed any (terms (map term_of es))
 unfolding terms Exp_built
 parts_built [] h = tt
 parts_built (e ∷ es) h = (first_of Exp_built e es h, parts_built es (others Exp_built e es h))
@@ -45,14 +44,12 @@ as_many [] = refl
 as_many (e ∷ es) = ap suc (as_many es)
 
 row_built : (ls : List LetTree) (body : FlatTerm) → All Let_built ls → Term_built body → Term_built (lets (map row_of ls) body)
-unfolding lets Let_built Heads_built Exp_built
+unfolding lets Let_built Exp_built
 row_built [] body h b = b
 row_built (l ∷ ls) body h b =
     let r = row_built ls body (others Let_built l ls h) b in
     let x = first_of Let_built l ls h in
-    let heads : No_sizes [] (parameters l.heads.now) = x.1 in
-    let sized : No_sizes l.sizes.now (parameters l.heads.now) = subst (λ (bs : List BindId). No_sizes bs (parameters l.heads.now)) (sym x.0) heads in
-    subst (λ (row : Row). No_sizes row.0.sizes row.0.parameters × Meant any row.1 × Meant any (lets (map row_of ls) body)) (sym (row_is l)) (sized, x.2, r)
+    subst (λ (row : Row). Formed any row.1 × Formed any (lets (map row_of ls) body)) (sym (row_is l)) (x, r)
 
 has_parameter : (ps : List Pat) → 0 < length ps → Has_parameter (patterns (map pattern_of ps))
 unfolding patterns
@@ -95,11 +92,9 @@ pub built_loop : (e : Exp) (l : Bor LoopTree) → e.form ≡ form.Loop l → Loo
 unfolding Loop_built
 built_loop e l is h = as_term e _ (term_loop e l is) h
 
-pub loop_built : (l : LoopTree) → l.sizes.now ≡ [] → Exp_built l.first → Loop_turns_built l.form → Exp_built l.body → Loop_built l
+pub loop_built : (l : LoopTree) → Exp_built l.first → Loop_turns_built l.form → Exp_built l.body → Loop_built l
 unfolding Loop_built Loop_turns_built Exp_built
-loop_built l none h k b =
-    let sized : No_sizes l.sizes.now [] = subst (λ (bs : List BindId). No_sizes bs []) (sym none) tt in
-    subst Term_built (sym (loop_is l)) (sized, h, k, b)
+loop_built l h k b = subst Term_built (sym (loop_is l)) (h, k, b)
 
 pub built_counted : (t : LoopForm) (i : BindId) (n : Exp) → t ≡ turns.For i n → Exp_built n → Loop_turns_built t
 unfolding Loop_turns_built Exp_built
@@ -115,23 +110,18 @@ built_while t c is h = subst (λ (s : LoopForm). Turns_built (turns_of s)) (sym 
 
 -- ---- and only there
 
-parts_were : (es : List Exp) → All_meant any (terms (map term_of es)) → All Exp_built es
+parts_were : (es : List Exp) → All_formed any (terms (map term_of es)) → All Exp_built es
 unfolding terms Exp_built
 parts_were [] m = λ k d lt. absurd (omega arith)
 parts_were (e ∷ es) m = all_more Exp_built e es m.0 (parts_were es m.1)
 
-no_sizes_are : (bs : List BindId) (ps : List (Parameter BindId)) → No_sizes bs ps → (bs ≡ []) × No_sizes [] ps
-no_sizes_are [] ps h = (refl, h)
-no_sizes_are (b ∷ bs) ps h = absurd h
-
 row_was : (ls : List LetTree) (body : FlatTerm) → Term_built (lets (map row_of ls) body) → All Let_built ls × Term_built body
-unfolding lets Let_built Heads_built Exp_built
+unfolding lets Let_built Exp_built
 row_was [] body h = ((λ k d lt. absurd (omega arith)), h)
 row_was (l ∷ ls) body h =
-    let x = subst (λ (row : Row). No_sizes row.0.sizes row.0.parameters × Meant any row.1 × Meant any (lets (map row_of ls) body)) (row_is l) h in
-    let sized = no_sizes_are l.sizes.now (parameters l.heads.now) x.0 in
-    let r = row_was ls body x.2 in
-    (all_more Let_built l ls (sized.0, sized.1, x.1) r.0, r.1)
+    let x = subst (λ (row : Row). Formed any row.1 × Formed any (lets (map row_of ls) body)) (row_is l) h in
+    let r = row_was ls body x.1 in
+    (all_more Let_built l ls x.0 r.0, r.1)
 
 had_parameter : (ps : List Pat) → Has_parameter (patterns (map pattern_of ps)) → 0 < length ps
 unfolding patterns
@@ -169,11 +159,9 @@ pub was_loop : (e : Exp) (l : Bor LoopTree) → e.form ≡ form.Loop l → Exp_b
 unfolding Loop_built
 was_loop e l is h = was_term e _ (term_loop e l is) h
 
-pub loop_was : (l : LoopTree) → Loop_built l → (l.sizes.now ≡ []) × Exp_built l.first × Loop_turns_built l.form × Exp_built l.body
+pub loop_was : (l : LoopTree) → Loop_built l → Exp_built l.first × Loop_turns_built l.form × Exp_built l.body
 unfolding Loop_built Loop_turns_built Exp_built
-loop_was l h =
-    let x = subst Term_built (loop_is l) h in
-    ((no_sizes_are l.sizes.now [] x.0).0, x.1, x.2, x.3)
+loop_was l h = let x = subst Term_built (loop_is l) h in (x.0, x.1, x.2)
 
 pub was_counted : (t : LoopForm) (i : BindId) (n : Exp) → t ≡ turns.For i n → Loop_turns_built t → Exp_built n
 unfolding Loop_turns_built Exp_built
@@ -189,12 +177,12 @@ was_while t c is h = subst Turns_built (turns_while c) (subst (λ (s : LoopForm)
 
 -- ---- programs
 
-pub definitions_meant : (ds : List Definition) → All Definition_built ds → Definitions_meant (map defined ds)
-unfolding Definition_built Heads_built Exp_built
-definitions_meant [] h = tt
-definitions_meant (d ∷ ds) h = let x = first_of Definition_built d ds h in (x.0, x.1, definitions_meant ds (others Definition_built d ds h))
+pub definitions_formed : (ds : List Definition) → All Definition_built ds → Definitions_formed (map defined ds)
+unfolding Definition_built Exp_built
+definitions_formed [] h = tt
+definitions_formed (d ∷ ds) h = (first_of Definition_built d ds h, definitions_formed ds (others Definition_built d ds h))
 
-pub definitions_were : (ds : List Definition) → Definitions_meant (map defined ds) → All Definition_built ds
-unfolding Definition_built Heads_built Exp_built
+pub definitions_were : (ds : List Definition) → Definitions_formed (map defined ds) → All Definition_built ds
+unfolding Definition_built Exp_built
 definitions_were [] m = λ k d lt. absurd (omega arith)
-definitions_were (d ∷ ds) m = all_more Definition_built d ds (m.0, m.1) (definitions_were ds m.2)
+definitions_were (d ∷ ds) m = all_more Definition_built d ds m.0 (definitions_were ds m.1)

@@ -24,10 +24,14 @@ use Rattle.type_scopes.specs.declared.Inference.{Inference}
 use Rattle.type_infer.specs.Inferring.{Told_by, Has_typing, Infers}
 use Rattle.type_infer.specs.Reading.{Comes_to}
 use Rattle.type_soundness.specs.Fits.{widest}
-use Rattle.type_soundness.specs.Programs.{Definitions_told}
+use Rattle.fut_meaning.specs.Found.{Told}
+use Rattle.fut_meaning.specs.Uses.{is_size_in}
+use Rattle.type_soundness.specs.Formed.{Definitions_apart}
+use Rattle.type_soundness.specs.Programs.{Definitions_told, Is_sized}
+use Rattle.type_soundness.specs.Walks.{Is_sized_walkable}
 use Rattle.type_soundness.proofs.Literals.{literal_kept}
 use Rattle.typed_programs.specs.Built.{Is_built}
-use Rattle.typed_programs.specs.Typed.{integer_at, Typed_by, Is_integer, Nodes_tell}
+use Rattle.typed_programs.specs.Typed.{integer_at, Is_well_typed, Typed_by, Is_integer, Nodes_tell}
 use Rattle.typed_programs.proofs.Integral.{integral}
 use Rattle.typed_programs.proofs.Names.{once_each}
 
@@ -108,8 +112,7 @@ module _ (flat : Flat) (inference : Inference) (integers : List IntType) (built 
         types = has.types;
         typing = has.typing;
         comes = has.comes;
-        typed = record { holds_data = omega arith; typed = typed; meant = built.meant; told = definitions_told N K has.types integers (program_numbers ds) tells ds 0 nothing (omega arith) typed; once = once_each flat.definitions.now built.rising; small = small };
-        walkable = record { typed = typed; walkable = built.meant; once = once_each flat.definitions.now built.rising; small = small };
+        typed = record { typed = typed; formed = built.formed; told = definitions_told N K has.types integers (program_numbers ds) tells ds 0 nothing (omega arith) typed; once = once_each flat.definitions.now built.rising; small = small };
       }
 
   pub program_typed : Infers (program_of flat) inference → Nodes_tell inference.nodes integers (length inference.nodes) → Told_by (Typed_by flat inference integers) inference
@@ -118,3 +121,13 @@ module _ (flat : Flat) (inference : Inference) (integers : List IntType) (built 
     some = infers.typing.some;
     holds = λ N numbered. typed_so N infers.long infers.graph.short tell (infers.typing.holds N numbered);
   }
+
+-- ---- of which the laws of the meaning and of the walk speak
+
+module _ {N : Names} {K : Kinds} {a : Sub} {flat : Flat} (T : Told) (w : Is_well_typed N K a T.integer_at flat) where
+  -- where a sizing tells its sizes
+  pub sized_so : Definitions_apart (is_size_in T.sizes) (program_of flat) → Is_sized N kind.Data K a T flat
+  sized_so apart = record { holds_data = omega arith; typed = w.typed; formed = w.formed; apart = apart; told = w.told; once = w.once; small = w.small }
+
+  pub walkable_so : Definitions_apart (is_size_in T.sizes) (program_of flat) → Is_sized_walkable N K a (is_size_in T.sizes) flat
+  walkable_so apart = record { typed = w.typed; formed = w.formed; apart = apart; once = w.once; small = w.small }

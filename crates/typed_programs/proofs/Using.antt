@@ -8,7 +8,6 @@ use Rattle.fut_scalar.specs.declared.scalar.IntType.TheVariants as int
 use Rattle.fut_scalar.specs.declared.sizes.DataType.{DataType}
 use Rattle.fut_scalar.specs.declared.scalar.ScalarType.{ScalarType}
 use Rattle.fut_scalar.specs.declared.scalar.ScalarType.TheVariants as scalar
-use Rattle.fut_flat.specs.declared.pat.Head.{Head}
 use Rattle.fut_flat.specs.declared.program.Definition.{Definition}
 use Rattle.fut_flat.specs.declared.program.Flat.{Flat}
 use Rattle.fut_flat.specs.Terms.{Parameter, Size_parameter, Type_parameter}
@@ -33,8 +32,7 @@ use Rattle.type_graph.specs.Graph.{node_at}
 use Rattle.type_infer.specs.Inferring.{Numbers, TypeScheme, Instantiates, Has_scheme, Has_typing, Infers}
 use Rattle.type_infer.specs.Reading.{Reads, Comes_to, Generally, node_default}
 use Rattle.flat_numbers.specs.Listed.{AreHomes}
-use Rattle.type_soundness.specs.Meant.{No_sizes}
-use Rattle.type_soundness.specs.Programs.{Definitions_meant, None_has, One_each}
+use Rattle.type_soundness.specs.Programs.{None_has, One_each}
 use Rattle.typed_programs.specs.EntryTypes.{array_ty, data_ty, data_tys, Results_are, Has_entry_type, number_of}
 use Rattle.typed_programs.specs.Entries.{Type_is, No_entry_type, May_be_used, Is_unwritten, Is_outside}
 use Rattle.typed_programs.proofs.EntryTypes.{parameters_data, results_data}
@@ -238,40 +236,20 @@ module _ (flat : Flat) (inference : Inference) (at : ℕ) (lt : at < length flat
 pub number_within : (flat : Flat) (nodes : List Node) (at : ℕ) → at < length flat.definitions.now → program_numbers (program_of flat) ≤ length nodes → number_of flat at < length nodes
 number_within flat nodes at lt le = let below : number_of flat at < 0 + program_numbers (program_of flat) = behind_below flat.definitions.now at 0 lt in omega (arith, below, le)
 
--- the parameters of a definition of a built program are type parameters
-some_types : (ps : List (Parameter BindId)) → No_sizes [] ps → 0 < length ps → has_types ps ≡ true
-some_types [] h lt = absurd (let z : 0 < 0 = lt in omega arith)
-some_types (Size_parameter b ∷ ps) h lt = absurd h
-some_types (Type_parameter b lifted ∷ ps) h lt = refl
-
-long_heads : (hs : List Head) → length (parameters hs) ≡ length hs
-long_heads [] = refl
-long_heads (h ∷ hs) = ap suc (long_heads hs)
-
-meant_at : (ds : List Definition) (at : ℕ) (other : Definition) → at < length ds → Definitions_meant (map defined ds) → No_sizes [] (parameters (slice_index_or ds at other).heads.now)
-meant_at [] at other lt h = absurd (let z : at < 0 = lt in omega arith)
-meant_at (d ∷ ds) zero other lt h = h.0
-meant_at (d ∷ ds) (suc at) other lt h = meant_at ds at other (let z : suc at < suc (length ds) = lt in omega arith) h.2
-
-heads_are_types : (ds : List Definition) (at : ℕ) (other : Definition) → at < length ds → Definitions_meant (map defined ds) → 0 < length (slice_index_or ds at other).heads.now → has_types (parameters (slice_index_or ds at other).heads.now) ≡ true
-heads_are_types ds at other lt h some = let hs : List Head = (slice_index_or ds at other).heads.now in let long : length (parameters hs) ≡ length hs = long_heads hs in
-    some_types (parameters hs) (meant_at ds at other lt h) (omega (arith, long, some))
-
-heads_are_none : (hs : List Head) → length hs ≤ 0 → has_types (parameters hs) ≡ false
-heads_are_none [] le = refl
-heads_are_none (h ∷ hs) le = absurd (let z : suc (length hs) ≤ 0 = le in omega arith)
-
 -- whichever definition stands for one outside
 same_at : (ds : List Definition) (at : ℕ) (x y : Definition) → at < length ds → slice_index_or ds at x ≡ slice_index_or ds at y
 same_at [] at x y lt = absurd (let z : at < 0 = lt in omega arith)
 same_at (d ∷ ds) zero x y lt = refl
 same_at (d ∷ ds) (suc at) x y lt = same_at ds at x y (let z : suc at < suc (length ds) = lt in omega arith)
 
-pub outside_heads : (flat : Flat) (inference : Inference) (at : ℕ) (some : Definition) → at < length flat.definitions.now → Definitions_meant (program_of flat) → 0 < length (slice_index_or flat.definitions.now at some).heads.now → Is_outside flat inference at
-outside_heads flat inference at some lt h long = inl (λ other. heads_are_types flat.definitions.now at other lt h (subst (λ (d : Definition). 0 < length d.heads.now) (same_at flat.definitions.now at some other lt) long))
+pub same_heads : (ds : List Definition) (at : ℕ) (some : Definition) (written : Bool) → at < length ds → written ≡ has_types (parameters (slice_index_or ds at some).heads.now) → (other : Definition) → has_types (parameters (slice_index_or ds at other).heads.now) ≡ written
+same_heads ds at some written lt is other = sym (ap (λ (d : Definition). has_types (parameters d.heads.now)) (same_at ds at some other lt)) ∙ sym is
 
-pub plain_heads : (ds : List Definition) (at : ℕ) (some : Definition) → at < length ds → length (slice_index_or ds at some).heads.now ≤ 0 → (other : Definition) → has_types (parameters (slice_index_or ds at other).heads.now) ≡ false
-plain_heads ds at some lt empty other = heads_are_none (slice_index_or ds at other).heads.now (subst (λ (d : Definition). length d.heads.now ≤ 0) (same_at ds at some other lt) empty)
+pub outside_heads : (flat : Flat) (inference : Inference) (at : ℕ) (some : Definition) (written : Bool) → at < length flat.definitions.now → written ≡ has_types (parameters (slice_index_or flat.definitions.now at some).heads.now) → written ≡ true → Is_outside flat inference at
+outside_heads flat inference at some written lt is holds = inl (λ other. same_heads flat.definitions.now at some written lt is other ∙ holds)
+
+pub plain_heads : (ds : List Definition) (at : ℕ) (some : Definition) (written : Bool) → at < length ds → written ≡ has_types (parameters (slice_index_or ds at some).heads.now) → written ≡ false → (other : Definition) → has_types (parameters (slice_index_or ds at other).heads.now) ≡ false
+plain_heads ds at some written lt is fails other = same_heads ds at some written lt is other ∙ fails
 
 pub counted : (flat : Flat) (at : ℕ) (homes : List ℕ) → AreHomes homes (map defined (take at flat.definitions.now)) → length homes ≡ number_of flat at
 counted flat at homes are = let b : behind (map defined (take at flat.definitions.now)) 0 ≡ 0 + program_numbers (map defined (take at flat.definitions.now)) = behind_counted (take at flat.definitions.now) 0 in

@@ -1,19 +1,10 @@
 // Expressions. A row of `let`s is gone over by a loop, however long it is.
-ghost use Rattle.std.specs.Prelude.{◌≡◌, [], true, false};
+ghost use Rattle.std.specs.Prelude.{◌≡◌, true, false};
 ghost use Rattle.std.specs.List.{All};
 ghost use Rattle.typed_programs.specs.Trees.{Exp_built, Let_built, Loop_built, Loop_turns_built};
 
-use crate::operations::{act_is_built, heads_are_built};
+use crate::operations::act_is_built;
 use fut_flat::{Exp, Form, Let, Loop, LoopForm};
-use fut_scalar::BindId;
-
-/// Whether no names of sizes are bound.
-fn no_sizes(sizes: &[BindId]) -> bool
-    ensures built { result ≡ true → sizes.now ≡ [] }
-    ensures unbuilt { result ≡ false → (sizes.now ≡ []) → ⊥ }
-{
-    sizes.is_empty()
-}
 
 /// Whether an expression has only forms that are built.
 #[cycle(term)]
@@ -64,7 +55,7 @@ fn let_is_built(one: &Let<'_>) -> bool
     ensures built { result ≡ true → Let_built one.now }
     ensures unbuilt { result ≡ false → Let_built one.now → ⊥ }
 {
-    no_sizes(one.sizes) && heads_are_built(one.heads) && exp_is_built(&one.value)
+    exp_is_built(&one.value)
 }
 
 #[cycle(term)]
@@ -72,9 +63,6 @@ fn loop_is_built(turning: &Loop<'_>) -> bool
     ensures built { result ≡ true → Loop_built turning.now }
     ensures unbuilt { result ≡ false → Loop_built turning.now → ⊥ }
 {
-    if !no_sizes(turning.sizes) {
-        return false;
-    }
     if !exp_is_built(&turning.first) {
         return false;
     }

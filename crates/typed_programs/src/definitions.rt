@@ -5,7 +5,6 @@ ghost use Rattle.typed_programs.specs.Trees.{Definition_built};
 ghost use Rattle.typed_programs.specs.Built.{Numbers_rise};
 
 use crate::built_terms::exp_is_built;
-use crate::operations::heads_are_built;
 use fut_flat::Definition;
 
 /// Whether all definitions have only forms that are built.
@@ -26,7 +25,7 @@ fn definition_is_built(definition: &Definition<'_>) -> bool
     ensures built { result ≡ true → Definition_built definition.now }
     ensures unbuilt { result ≡ false → Definition_built definition.now → ⊥ }
 {
-    heads_are_built(definition.heads) && exp_is_built(definition.value)
+    exp_is_built(definition.value)
 }
 
 /// Whether the numbers of definitions rise, as elaboration gives them.

@@ -1,5 +1,7 @@
 // The types of definitions from which a run may begin, read off the graph before any default for what is generalised.
 ghost use Rattle.std.specs.Prelude.{◌≡◌, ◌<◌, ◌≤◌, ◌+◌, [], IfOk, IfErr, OnOk, length};
+ghost use Rattle.fut_flat.specs.Erased.{parameters};
+ghost use Rattle.fut_typing.specs.Free.{has_types};
 ghost use Rattle.fut_typing.specs.Program.{program_of};
 ghost use Rattle.type_graph.specs.Graph.{IsGraph};
 ghost use Rattle.type_infer.specs.Inferring.{Infers};
@@ -10,7 +12,7 @@ ghost use Rattle.typed_programs.specs.EntryTypes.{number_of};
 
 use crate::forms::{array_of, function_of, scalar_of, tuple_of};
 use flat_numbers::homes;
-use fut_flat::Flat;
+use fut_flat::{Flat, Head, HeadForm};
 use fut_scalar::{DataType, List};
 use std::alloc::Global;
 use type_infer::general_type_at;
@@ -195,8 +197,8 @@ fn entry_type_of(
     }
 }
 
-/// The number of the name of a definition: those before it have as many.
-fn number_of_name(alloc: Global, flat: &Flat<'_>, at: usize) -> Result<u32, EntryTypeErr>
+/// The number of the name of a definition: those before it have as many. The cost is linear.
+pub fn number_of_name(alloc: Global, flat: &Flat<'_>, at: usize) -> Result<u32, EntryTypeErr>
     requires { at < length flat.now.definitions.now }
     ensures ok { IfOk result (λ number. number ≡ number_of flat.now at) }
     ensures err { IfErr result (Because ⊥) }
@@ -216,6 +218,20 @@ fn number_of_name(alloc: Global, flat: &Flat<'_>, at: usize) -> Result<u32, Entr
     }
 }
 
+/// Whether type parameters are written.
+fn has_types(heads: &[Head]) -> bool
+    ensures { result ≡ has_types (parameters heads.now) }
+{
+    let mut left = heads;
+    while let [head, rest @ ..] = left {
+        if let HeadForm::Var { .. } = head.form {
+            return true;
+        }
+        left = rest;
+    }
+    false
+}
+
 /// The type of a definition, `at` in the row of definitions, as one from which a run may begin: it has no written type
 /// parameters, and in each typing that the graph shows it is used at this type and at no other. The cost is linear.
 pub fn entry_type(
@@ -232,8 +248,7 @@ pub fn entry_type(
     ensures within { IfOk result (λ entry. Is_outside flat.now inference.now at → ⊥) }
     ensures outside { IfErr result (Because (Is_outside flat.now inference.now at)) }
 {
-    // Of a built program these are type parameters alone.
-    if flat.definitions[at].heads.len() > 0 {
+    if has_types(flat.definitions[at].heads) {
         return Err(EntryTypeErr::Outside);
     }
     match number_of_name(alloc, flat, at) {

@@ -6,7 +6,8 @@
 //! that is not built yet, and goes once all are.
 //!
 //! [`integer_types`] gives the type of each integer without a suffix, read off the graph that inference leaves. The program is
-//! then one of which the laws of its meaning speak: it never goes wrong, and its walk is never lost (`specs/Typed.antt`).
+//! then one of which the laws of its meaning speak, where its sizes are told: it never goes wrong, and its walk
+//! is never lost (`specs/Typed.antt`).
 //! [`entry_type`] tells the type of a definition from which a run may begin, exactly (`specs/Entries.antt`,
 //! `EntryTypes.antt`).
 #![tactic(auto)]
@@ -22,6 +23,6 @@ mod positions;
 mod typed;
 
 pub use built::is_built;
-pub use entries::{EntryType, EntryTypeErr, entry_type};
+pub use entries::{EntryType, EntryTypeErr, entry_type, number_of_name};
 pub use integers::{IntegersErr, integer_types};
 pub use typed::{Accepted, TypeErr, typed_program};

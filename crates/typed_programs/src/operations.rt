@@ -1,9 +1,9 @@
-// Operations and type parameters.
+// Operations.
 ghost use Rattle.std.specs.Prelude.{◌≡◌, true, false};
-ghost use Rattle.typed_programs.specs.Trees.{Act_built, Heads_built};
+ghost use Rattle.typed_programs.specs.Trees.{Act_built};
 
 use crate::positions::is_position;
-use fut_flat::{Act, Head, HeadForm};
+use fut_flat::Act;
 
 /// Whether an operation on so many parts has those that its grammar gives it: an index, a place and a value, or the name of a
 /// field.
@@ -18,17 +18,4 @@ pub(crate) fn act_is_built(act: Act<'_>, parts: usize) -> bool
         Act::Replace(name) => !is_position(name),
         _ => true,
     }
-}
-
-/// Whether none of these parameters is a size.
-pub(crate) fn heads_are_built(heads: &[Head]) -> bool
-    ensures built { result ≡ true → Heads_built heads.now }
-    ensures unbuilt { result ≡ false → Heads_built heads.now → ⊥ }
-{
-    for head in heads {
-        if let HeadForm::Size(_) = head.form {
-            return false;
-        }
-    }
-    true
 }

@@ -28,19 +28,21 @@ use Rattle.unfold.specs.Knowns.{Known, Scalar_known, Tuple_known, Record_known, 
 use Rattle.unfold.specs.Stuck.{Not_bound, No_scalar}
 use Rattle.unfold.specs.Unfolding.{Bindings, step, named, b_bound, b_wild, b_tuple, b_parts, b_record, b_fields, b_typed, b_none, b_more}
 use Rattle.unfold.specs.Unfolding as rules
-use Rattle.fut_flat.specs.Numbers.{pattern_numbers}
+use Rattle.fut_flat.specs.Numbers.{pattern_numbers, all_pattern_numbers}
 use Rattle.unfold.specs.Telling.{enter}
 use Rattle.fut_meaning.specs.Found.{Sizing}
-use Rattle.unfold_parts.specs.Unsized.{Binds, All_bind}
+use Rattle.told_rows.specs.Tables.{Told_by}
+use Rattle.unfold_parts.specs.Told.{Held_sizes, Enters}
 use Rattle.unfold.specs.declared.known.Field.{Field}
 use Rattle.unfold.specs.declared.known.Known.{Known as Held_known}
 use Rattle.unfold.specs.declared.known.KnownForm.TheVariants as form
 use Rattle.unfold.specs.declared.known.Scope.{Scope as Held_scope}
-use Rattle.unfold_parts.specs.Answers.{answered, unanswered, Bound_to, All_bound_to, Parts_given, Given_to, Fields_given, Opened, opened, Opened_to, Fields_read}
+use Rattle.unfold_parts.specs.Answers.{answered, unanswered, Bound_to, Bound_from, All_bound_from, Bound_inside, Is_entered, Is_named, Parts_given, Given_to, Fields_given, Opened, opened, Opened_to, Fields_read}
 use Rattle.unfold_parts.specs.Layouts.{numbers_from}
 use Rattle.unfold_parts.specs.Parts.{Fields_to, fields_to, not_fields}
 use Rattle.unfold_parts.specs.Patterns.{field_patterns, field_names}
 use Rattle.unfold_parts.specs.Refused.{lost, Not_all_bound}
+use Rattle.unfold_parts.specs.declared.patterns.Bound.{Bound}
 use Rattle.unfold_parts.specs.declared.patterns.Given.{Given}
 use Rattle.unfold_parts.specs.declared.refusal.Refusal.{Refusal}
 use Rattle.unfold_parts.specs.declared.refusal.Refusal.TheVariants.{Lost, Memory}
@@ -178,36 +180,67 @@ given_patterns fs ps s n next before after g (answered bs e h) = h.patterns
 
 -- ---- by form
 
-module _ (p : Pat) (sc : Scope) (n : ℕ) (before : Bindings) where
-  as_pattern : {q : FlatPattern} {s : Known} {after : Bindings} {next : ℕ} {r : Result Held_scope Refusal} → pattern_of p ≡ q → Bound_to q s sc n before after next r → Bound_to (pattern_of p) s sc n before after next r
-  as_pattern {s = s} {after} {next} {r} e h = subst (λ z. Bound_to z s sc n before after next r) (sym e) h
+module _ (S : Held_sizes) (p : Pat) (b : Bound) (n : ℕ) (before : Bindings) where
+  as_pattern : {q : FlatPattern} {s : Known} {after : Bindings} {next : ℕ} {r : Result Bound Refusal} → pattern_of p ≡ q → Bound_from S b q s n before after next r → Bound_from S b (pattern_of p) s n before after next r
+  as_pattern {s = s} {after} {next} {r} e h = subst (λ z. Bound_from S b z s n before after next r) (sym e) h
 
-  pub bound_name : (b : BindId) (s : Known) (r : Result Held_scope Refusal) → p.form ≡ pattern.Bound b → IfOk r (λ inner. scope_of inner ≡ name_and b s sc) → IfErr r (λ x. x ≡ Memory) → Bound_to (pattern_of p) s sc n before before n r
-  bound_name b s (Ok inner) is e e' = as_pattern (pattern_bound p b is) (answered [] (sym (append-nil before)) (subst (λ z. Binds (Bound_pattern b) s sc n [] z n) (sym e) (λ q. b_bound)))
-  bound_name b s (Err r) is e e' = unanswered (only_memory e')
+  pub bound_name : (k : BindId) (s : Known) (r : Result Bound Refusal) → p.form ≡ pattern.Bound k → IfOk r (Is_named S b k s) → IfErr r (λ x. x ≡ Memory) → Bound_from S b (pattern_of p) s n before before n r
+  bound_name k s (Ok c) is h m = as_pattern (pattern_bound p k is) (answered [] (sym (append-nil before)) record {
+    binds = λ Z t. subst (λ z. rules.Binds Z b.at (Bound_pattern k) s (scope_of b.scope) n [] z n) (sym (h.names Z t)) b_bound;
+    behind = h.behind;
+  })
+  bound_name k s (Err r) is h m = unanswered (only_memory m)
 
-  pub bound_wild : (s : Known) (inner : Held_scope) → p.form ≡ pattern.Wild → scope_of inner ≡ sc → Bound_to (pattern_of p) s sc n before before n (Ok inner)
-  bound_wild s inner is e = as_pattern (pattern_wild p is) (answered [] (sym (append-nil before)) (subst (λ z. Binds Wild_pattern s sc n [] z n) (sym e) (λ q. b_wild)))
+  pub bound_wild : (s : Known) (r : Result Bound Refusal) → p.form ≡ pattern.Wild → IfOk r (Is_entered S b s) → IfErr r (λ x. x ≡ Memory) → Bound_from S b (pattern_of p) s n before before n r
+  bound_wild s (Ok c) is h m = as_pattern (pattern_wild p is) (answered [] (sym (append-nil before)) record {
+    binds = λ Z t. subst (λ z. rules.Binds Z b.at Wild_pattern s (scope_of b.scope) n [] z n) (sym (h.enters Z t)) b_wild;
+    behind = h.behind;
+  })
+  bound_wild s (Err r) is h m = unanswered (only_memory m)
 
-  pub bound_typed : (q : Bor Pat) (t : Bor TypeExp) (s : Known) (after : Bindings) (next : ℕ) (r : Result Held_scope Refusal) → p.form ≡ pattern.Typed q t → Bound_to (pattern_of q.now) s sc n before after next r → Bound_to (pattern_of p) s sc n before after next r
-  bound_typed q t s after next r is h = as_pattern (pattern_typed p q t is) (answered_as (λ bs inner m b i. b_typed (b i)) (typed_unbound (pattern_of q.now) _ s) h)
+  pub bound_typed : (q : Bor Pat) (t : Bor TypeExp) (s : Known) (after : Bindings) (next : ℕ) (r : Result Bound Refusal) → p.form ≡ pattern.Typed q t → Bound_from S b (pattern_of q.now) s n before after next r → Bound_from S b (pattern_of p) s n before after next r
+  bound_typed q t s after next r is h = as_pattern (pattern_typed p q t is) (answered_as (λ bs c m i. record { binds = λ Z t. b_typed (i.binds Z t); behind = i.behind }) (typed_unbound (pattern_of q.now) _ s) h)
 
   -- the parts of the value, and then the patterns of the parts
-  bound_given : (whole : FlatPattern) (ps : Patterns Ref BindId) (s : Known) (ss : List Known) (mid next : ℕ) (bs between after : Bindings) (r : Result Held_scope Refusal) → pattern_of p ≡ whole → between ≡ before ++ bs → Parts_given whole ps s n bs ss mid → All_bound_to ps ss sc mid between after next r → Bound_to (pattern_of p) s sc n before after next r
-  bound_given whole ps s ss mid next bs between after _ is e g (answered {a = inner} cs q h) = as_pattern is (answered (bs ++ cs) (q ∙ ap (λ z. z ++ cs) e ∙ append_assoc before bs cs) (g.binds sc (scope_of inner) cs next h))
+  bound_given : (whole : FlatPattern) (ps : Patterns Ref BindId) (s : Known) (ss : List Known) (mid next : ℕ) (bs between after : Bindings) (r : Result Bound Refusal) → pattern_of p ≡ whole → between ≡ before ++ bs → Parts_given whole ps s n bs ss mid → Bound_inside S b s ps ss mid between after next r → Bound_from S b (pattern_of p) s n before after next r
+  bound_given whole ps s ss mid next bs between after _ is e g (answered {a = c} cs q h) = as_pattern is (answered (bs ++ cs) (q ∙ ap (λ z. z ++ cs) e ∙ append_assoc before bs cs) record {
+    binds = λ Z t. g.binds Z b.at (scope_of b.scope) (scope_of c.scope) cs next (h.binds Z t);
+    behind = h.behind ∙ ap (λ z. b.at + z) (sym g.numbers);
+  })
   bound_given whole ps s ss mid next bs between after _ is e g (unanswered h) = as_pattern is (unanswered (refused_as g.lacks h))
 
-  pub bound_tuple : (ps : Bor (List Pat)) (s : Known) (given : Bor (List Held_known)) (mid next : ℕ) (between after : Bindings) (r : Result Held_scope Refusal) → p.form ≡ pattern.Tuple ps → Given_to (Tuple_pattern (patterns (map pattern_of ps.now))) (patterns (map pattern_of ps.now)) s n before between mid (Ok given) → All_bound_to (patterns (map pattern_of ps.now)) (map known_of given.now) sc mid between after next r → Bound_to (pattern_of p) s sc n before after next r
+  pub bound_tuple : (ps : Bor (List Pat)) (s : Known) (given : Bor (List Held_known)) (mid next : ℕ) (between after : Bindings) (r : Result Bound Refusal) → p.form ≡ pattern.Tuple ps → Given_to (Tuple_pattern (patterns (map pattern_of ps.now))) (patterns (map pattern_of ps.now)) s n before between mid (Ok given) → Bound_inside S b s (patterns (map pattern_of ps.now)) (map known_of given.now) mid between after next r → Bound_from S b (pattern_of p) s n before after next r
   bound_tuple ps s given mid next between after r is (answered bs e g) h = bound_given _ _ s _ mid next bs between after r (pattern_tuple p ps is) e g h
 
-  pub tuple_refused : (ps : Bor (List Pat)) (s : Known) (mid : ℕ) (between : Bindings) (after : Bindings) (next : ℕ) (r : Refusal) → p.form ≡ pattern.Tuple ps → Given_to (Tuple_pattern (patterns (map pattern_of ps.now))) (patterns (map pattern_of ps.now)) s n before between mid (Err r) → Bound_to (pattern_of p) s sc n before after next (Err r)
+  pub tuple_refused : (ps : Bor (List Pat)) (s : Known) (mid : ℕ) (between : Bindings) (after : Bindings) (next : ℕ) (r : Refusal) → p.form ≡ pattern.Tuple ps → Given_to (Tuple_pattern (patterns (map pattern_of ps.now))) (patterns (map pattern_of ps.now)) s n before between mid (Err r) → Bound_from S b (pattern_of p) s n before after next (Err r)
   tuple_refused ps s mid between after next r is (unanswered h) = as_pattern (pattern_tuple p ps is) (unanswered h)
 
-  pub bound_record : (fs : Bor (List PatField)) (s : Known) (given : Given) (mid next : ℕ) (between after : Bindings) (r : Result Held_scope Refusal) → p.form ≡ pattern.Record fs → Fields_given (field_names fs.now) (field_patterns fs.now) s n before between mid (Ok given) → All_bound_to (patterns (map pattern_of given.pats.now)) (map known_of given.knowns.now) sc mid between after next r → Bound_to (pattern_of p) s sc n before after next r
-  bound_record fs s given mid next between after r is (answered bs e g) h = bound_given _ _ s _ mid next bs between after r (record_is p fs is) e g.parts (subst (λ z. All_bound_to z (map known_of given.knowns.now) sc mid between after next r) g.patterns h)
+  pub bound_record : (fs : Bor (List PatField)) (s : Known) (given : Given) (mid next : ℕ) (between after : Bindings) (r : Result Bound Refusal) → p.form ≡ pattern.Record fs → Fields_given (field_names fs.now) (field_patterns fs.now) s n before between mid (Ok given) → Bound_inside S b s (patterns (map pattern_of given.pats.now)) (map known_of given.knowns.now) mid between after next r → Bound_from S b (pattern_of p) s n before after next r
+  bound_record fs s given mid next between after r is (answered bs e g) h = bound_given _ _ s _ mid next bs between after r (record_is p fs is) e g.parts (subst (λ z. Bound_inside S b s z (map known_of given.knowns.now) mid between after next r) g.patterns h)
 
-  pub record_refused : (fs : Bor (List PatField)) (s : Known) (mid : ℕ) (between : Bindings) (after : Bindings) (next : ℕ) (r : Refusal) → p.form ≡ pattern.Record fs → Fields_given (field_names fs.now) (field_patterns fs.now) s n before between mid (Err r) → Bound_to (pattern_of p) s sc n before after next (Err r)
+  pub record_refused : (fs : Bor (List PatField)) (s : Known) (mid : ℕ) (between : Bindings) (after : Bindings) (next : ℕ) (r : Refusal) → p.form ≡ pattern.Record fs → Fields_given (field_names fs.now) (field_patterns fs.now) s n before between mid (Err r) → Bound_from S b (pattern_of p) s n before after next (Err r)
   record_refused fs s mid between after next r is (unanswered h) = as_pattern (record_is p fs is) (unanswered h)
+
+-- the names alone
+pub bound_ok : (S : Held_sizes) (p : FlatPattern) (s : Known) (b c : Bound) (q : ℕ) (sc : Held_scope) (n next : ℕ) (before after : Bindings) → b.scope ≡ sc → b.at ≡ q → Bound_from S b p s n before after next (Ok c) → Bound_to S q p s (scope_of sc) n before after next (Ok c.scope)
+bound_ok S p s b c q sc n next before after e i (answered bs g h) = answered bs g (λ Z t. subst (λ z. rules.Binds Z z p s (scope_of sc) n bs (scope_of c.scope) next) i (subst (λ z. rules.Binds Z b.at p s (scope_of z) n bs (scope_of c.scope) next) e (h.binds Z t)))
+
+pub bound_err : (S : Held_sizes) (p : FlatPattern) (s : Known) (b : Bound) (q : ℕ) (sc : Scope) (n next : ℕ) (before after : Bindings) (x : Refusal) → Bound_from S b p s n before after next (Err x) → Bound_to S q p s sc n before after next (Err x)
+bound_err S p s b q sc n next before after x (unanswered h) = unanswered h
+
+-- a pattern is entered, and its name is bound
+module _ (S : Held_sizes) (b : Bound) (s : Known) where
+  pub entered_ok : (c : Bound) (scope : Held_scope) → Enters S b.at s (scope_of b.scope) (scope_of scope) → c.scope ≡ scope → c.at ≡ b.at + 1 → Is_entered S b s c
+  entered_ok c scope h e q = record { enters = λ Z t. ap scope_of e ∙ h Z t; behind = q }
+
+  pub named_ok : (k : BindId) (inside c : Bound) (scope : Held_scope) → Is_entered S b s inside → scope_of scope ≡ name_and k s (scope_of inside.scope) → c.scope ≡ scope → c.at ≡ inside.at → Is_named S b k s c
+  named_ok k inside c scope h i e q = record { names = λ Z t. ap scope_of e ∙ i ∙ ap (name_and k s) (h.enters Z t); behind = q ∙ h.behind }
+
+  pub inside_ok : (inside : Bound) (ps : Patterns Ref BindId) (ss : List Known) (n next : ℕ) (before after : Bindings) (r : Result Bound Refusal) → Is_entered S b s inside → All_bound_from S inside ps ss n before after next r → Bound_inside S b s ps ss n before after next r
+  inside_ok inside ps ss n next before after r e h = answered_as (λ bs c m i. record {
+    binds = λ Z t. subst (λ z. rules.All_bind Z z ps ss (enter Z b.at s (scope_of b.scope)) n bs (scope_of c.scope) m) (let q : inside.at ≡ 1 + b.at = omega (arith, e.behind) in q) (subst (λ z. rules.All_bind Z inside.at ps ss z n bs (scope_of c.scope) m) (e.enters Z t) (i.binds Z t));
+    behind = (let q : c.at ≡ b.at + (1 + all_pattern_numbers ps) = omega (arith, i.behind, e.behind) in q);
+  }) (λ lacks. lacks) h
 
 -- ---- the parts of a value
 
@@ -229,7 +262,8 @@ module _ (n : ℕ) (before : Bindings) where
   pub tuple_parts : (ps : Patterns Ref BindId) (s : Held_known) (ss : Bor (List Held_known)) → s.form ≡ form.Tuple ss → Given_to (Tuple_pattern ps) ps (known_of s) n before before n (Ok ss)
   tuple_parts ps s ss is = answered [] (sym (append-nil before)) (subst (λ z. Parts_given (Tuple_pattern ps) ps z n [] (map known_of ss.now) n) (sym (known_tuple s ss is))
       record {
-        binds = λ sc inner cs m h q. b_tuple (subst (λ z. All_bind ps z sc n cs inner m) (sym (listed_knowns (map known_of ss.now))) h (1 + q));
+        binds = λ Z q sc inner cs m h. b_tuple (subst (λ z. rules.All_bind Z (1 + q) ps z (enter Z q (Tuple_known (knowns (map known_of ss.now))) sc) n cs inner m) (sym (listed_knowns (map known_of ss.now))) h);
+        numbers = refl;
         lacks = λ lacks. parts_unbound ps (knowns (map known_of ss.now)) (subst (Not_all_bound ps) (sym (listed_knowns (map known_of ss.now))) lacks);
       })
 
@@ -239,7 +273,8 @@ module _ (n : ℕ) (before : Bindings) where
     where
       given_by : (bs : Bindings) (ss : List Known) (m : ℕ) → Opened (Operate (operation.Parts u)) (length ps) n bs ss m → Parts_given (Tuple_pattern (patterns (map pattern_of ps))) (patterns (map pattern_of ps)) (Scalar_known u) n bs ss m
       given_by _ ss m (opened {xs = xs} g) = record {
-        binds = λ sc inner cs k h q. b_parts xs g.upward (subst (λ z. All_bind (patterns (map pattern_of ps)) z sc m cs inner k) g.knowns h (1 + q));
+        binds = λ Z q sc inner cs k h. b_parts xs g.upward (subst (λ z. rules.All_bind Z (1 + q) (patterns (map pattern_of ps)) z (enter Z q (Scalar_known u) sc) m cs inner k) g.knowns h);
+        numbers = refl;
         lacks = λ lacks. component_parts (patterns (map pattern_of ps)) u xs (g.many ∙ sym (patterns_count ps)) (subst (Not_all_bound (patterns (map pattern_of ps))) g.knowns lacks);
       }
 
@@ -257,7 +292,8 @@ module _ (n : ℕ) (before : Bindings) where
     where
       by_fields : (r : Result (Bor (List Held_known)) Refusal) → Fields_to fs (fields_known (map field_of gs.now)) r → Given_to (Record_pattern fs ps) ps (Record_known (fields_known (map field_of gs.now))) n before before n r
       by_fields _ (fields_to {ss = ss} e) = answered [] (sym (append-nil before)) record {
-        binds = λ sc inner cs m h q. b_record e (h (1 + q));
+        binds = λ Z q sc inner cs m h. b_record e h;
+        numbers = refl;
         lacks = λ lacks. fields_unbound fs ps (fields_known (map field_of gs.now)) (λ ts q. subst (Not_all_bound ps) (let z : Some (map known_of ss.now) ≡ Some ts = sym e ∙ q in cc) lacks);
       }
       by_fields _ (not_fields h) = unanswered (refused_as (λ never. fields_unbound fs ps (fields_known (map field_of gs.now)) (λ ts q. absurd (never ts q))) h)
@@ -268,7 +304,8 @@ module _ (n : ℕ) (before : Bindings) where
     where
       given_by : (bs : Bindings) (ss : List Known) (m : ℕ) → Opened (Read (Fields_at (field_names fs)) (u ∷ [])) (length (field_names fs)) n bs ss m → Parts_given (Record_pattern (field_names fs) (field_patterns fs)) (field_patterns fs) (Scalar_known u) n bs ss m
       given_by _ ss m (opened {xs = xs} g) = record {
-        binds = λ sc inner cs k h q. b_fields xs g.upward g.many (subst (λ z. All_bind (field_patterns fs) z sc m cs inner k) g.knowns h (1 + q));
+        binds = λ Z q sc inner cs k h. b_fields xs g.upward g.many (subst (λ z. rules.All_bind Z (1 + q) (field_patterns fs) z (enter Z q (Scalar_known u) sc) m cs inner k) g.knowns h);
+        numbers = refl;
         lacks = λ lacks. component_fields (field_names fs) (field_patterns fs) u xs (g.many ∙ names_count fs ∙ sym (fields_count fs)) (subst (Not_all_bound (field_patterns fs)) g.knowns lacks);
       }
 
@@ -285,26 +322,41 @@ module _ (n : ℕ) (before : Bindings) where
 -- ---- parts, one after the other
 
 -- what is bound of the parts from one on leads to all of them
-pub data Bound_so_far (ps : List Pat) (ss : List Held_known) (sc : Scope) (n i j next : ℕ) (before now : Bindings) (names : Scope) : Type 0 where
-  bound_so_far : (bs : Bindings) → now ≡ before ++ bs → ((inner : Scope) (cs : Bindings) (m : ℕ) → All_bind (patterns (map pattern_of (drop i ps))) (map known_of (drop j ss)) names next cs inner m → All_bind (patterns (map pattern_of ps)) (map known_of ss) sc n (bs ++ cs) inner m) → Bound_so_far ps ss sc n i j next before now names
+pub data Bound_so_far (S : Held_sizes) (ps : List Pat) (ss : List Held_known) (b : Bound) (n i j next : ℕ) (before now : Bindings) (c : Bound) : Type 0 where
+  bound_so_far : (bs : Bindings) → now ≡ before ++ bs → c.at + all_pattern_numbers (patterns (map pattern_of (drop i ps))) ≡ b.at + all_pattern_numbers (patterns (map pattern_of ps)) → ((Z : Option Sizing) → Told_by S Z → (inner : Scope) (cs : Bindings) (m : ℕ) → rules.All_bind Z c.at (patterns (map pattern_of (drop i ps))) (map known_of (drop j ss)) (scope_of c.scope) next cs inner m → rules.All_bind Z b.at (patterns (map pattern_of ps)) (map known_of ss) (scope_of b.scope) n (bs ++ cs) inner m) → Bound_so_far S ps ss b n i j next before now c
 
-module _ (ps : List Pat) (ss : List Held_known) (sc : Scope) (n : ℕ) where
-  abbrev pub All_lead : ℕ → ℕ → ℕ → Bindings → Bindings → Scope → Type 0
-  All_lead = Bound_so_far ps ss sc n
+numbers_of_rest : (ps : List Pat) (i : ℕ) (p : Pat) → i < length ps → all_pattern_numbers (patterns (map pattern_of (drop i ps))) ≡ pattern_numbers (pattern_of (get_or ps i p)) + all_pattern_numbers (patterns (map pattern_of (drop (i + 1) ps)))
+unfolding patterns
+numbers_of_rest ps i p lt = ap (λ z. all_pattern_numbers (patterns (map pattern_of z))) (one_more ps i p lt)
 
-  pub all_lead_start : (before : Bindings) → All_lead 0 0 n before before sc
-  all_lead_start before = bound_so_far [] (sym (append-nil before)) (λ inner cs m h. h)
+module _ (S : Held_sizes) (ps : List Pat) (ss : List Held_known) (b : Bound) (n : ℕ) where
+  abbrev pub All_lead : ℕ → ℕ → ℕ → Bindings → Bindings → Bound → Type 0
+  All_lead = Bound_so_far S ps ss b n
 
-  pub all_lead_on : (i j mid next : ℕ) (before between after : Bindings) (p : Pat) (s : Held_known) (names : Scope) (inner : Held_scope) → i < length ps → j < length ss → All_lead i j mid before between names → Bound_to (pattern_of (get_or ps i p)) (known_of (get_or ss j s)) names mid between after next (Ok inner) → All_lead (i + 1) (j + 1) next before after (scope_of inner)
+  pub all_lead_start : (before : Bindings) → All_lead 0 0 n before before b
+  all_lead_start before = bound_so_far [] (sym (append-nil before)) refl (λ Z t inner cs m h. h)
+
+  pub all_lead_on : (i j mid next : ℕ) (before between after : Bindings) (p : Pat) (s : Held_known) (names inner : Bound) → i < length ps → j < length ss → All_lead i j mid before between names → Bound_from S names (pattern_of (get_or ps i p)) (known_of (get_or ss j s)) mid between after next (Ok inner) → All_lead (i + 1) (j + 1) next before after inner
   unfolding patterns
-  all_lead_on i j mid next before between after p s names inner lt lt' (bound_so_far bs e f) (answered cs q b) = bound_so_far (bs ++ cs) (q ∙ ap (λ z. z ++ cs) e ∙ append_assoc before bs cs) rest
+  all_lead_on i j mid next before between after p s names inner lt lt' (bound_so_far bs e at f) (answered cs q h) =
+      bound_so_far (bs ++ cs) (q ∙ ap (λ z. z ++ cs) e ∙ append_assoc before bs cs)
+      (let k : inner.at + all_pattern_numbers (patterns (map pattern_of (drop (i + 1) ps))) ≡ b.at + all_pattern_numbers (patterns (map pattern_of ps)) = omega (arith, at, h.behind, numbers_of_rest ps i p lt) in k) rest
     where
-      rest : (last : Scope) (ds : Bindings) (m : ℕ) → All_bind (patterns (map pattern_of (drop (i + 1) ps))) (map known_of (drop (j + 1) ss)) (scope_of inner) next ds last m → All_bind (patterns (map pattern_of ps)) (map known_of ss) sc n ((bs ++ cs) ++ ds) last m
-      rest last ds m h = subst (λ z. All_bind (patterns (map pattern_of ps)) (map known_of ss) sc n z last m) (sym (append_assoc bs cs ds)) (f last (cs ++ ds) m (subst (λ z. All_bind (patterns (map pattern_of z)) (map known_of (drop j ss)) names mid (cs ++ ds) last m) (sym (one_more ps i p lt)) (subst (λ z. All_bind (patterns (map pattern_of (get_or ps i p ∷ drop (i + 1) ps))) (map known_of z) names mid (cs ++ ds) last m) (sym (one_more ss j s lt')) (λ q. b_more (b q) (h (q + pattern_numbers (pattern_of (get_or ps i p))))))))
+      rest : (Z : Option Sizing) → Told_by S Z → (last : Scope) (ds : Bindings) (m : ℕ) → rules.All_bind Z inner.at (patterns (map pattern_of (drop (i + 1) ps))) (map known_of (drop (j + 1) ss)) (scope_of inner.scope) next ds last m → rules.All_bind Z b.at (patterns (map pattern_of ps)) (map known_of ss) (scope_of b.scope) n ((bs ++ cs) ++ ds) last m
+      rest Z t last ds m k = subst (λ z. rules.All_bind Z b.at (patterns (map pattern_of ps)) (map known_of ss) (scope_of b.scope) n z last m) (sym (append_assoc bs cs ds)) (f Z t last (cs ++ ds) m (subst (λ z. rules.All_bind Z names.at (patterns (map pattern_of z)) (map known_of (drop j ss)) (scope_of names.scope) mid (cs ++ ds) last m) (sym (one_more ps i p lt)) (subst (λ z. rules.All_bind Z names.at (patterns (map pattern_of (get_or ps i p ∷ drop (i + 1) ps))) (map known_of z) (scope_of names.scope) mid (cs ++ ds) last m) (sym (one_more ss j s lt')) (b_more (h.binds Z t) (subst (λ z. rules.All_bind Z z (patterns (map pattern_of (drop (i + 1) ps))) (map known_of (drop (j + 1) ss)) (scope_of inner.scope) next ds last m) h.behind k)))))
 
-  pub all_lead_end : (i j next : ℕ) (before now : Bindings) (inner : Held_scope) → length ps ≤ i → length ss ≤ j → All_lead i j next before now (scope_of inner) → All_bound_to (patterns (map pattern_of ps)) (map known_of ss) sc n before now next (Ok inner)
+  pub all_lead_end : (i j next : ℕ) (before now : Bindings) (inner : Bound) → length ps ≤ i → length ss ≤ j → All_lead i j next before now inner → All_bound_from S b (patterns (map pattern_of ps)) (map known_of ss) n before now next (Ok inner)
   unfolding patterns
-  all_lead_end i j next before now inner le le' (bound_so_far bs e f) = answered bs e (subst (λ z. All_bind (patterns (map pattern_of ps)) (map known_of ss) sc n z (scope_of inner) next) (append-nil bs) (f (scope_of inner) [] next (subst (λ z. All_bind (patterns (map pattern_of z)) (map known_of (drop j ss)) (scope_of inner) next [] (scope_of inner) next) (sym (drop_all i ps le)) (subst (λ z. All_bind (patterns (map pattern_of [])) (map known_of z) (scope_of inner) next [] (scope_of inner) next) (sym (drop_all j ss le')) (λ q. b_none)))))
+  all_lead_end i j next before now inner le le' (bound_so_far bs e at f) = answered bs e record {
+    binds = λ Z t. subst (λ z. rules.All_bind Z b.at (patterns (map pattern_of ps)) (map known_of ss) (scope_of b.scope) n z (scope_of inner.scope) next) (append-nil bs) (f Z t (scope_of inner.scope) [] next (nothing_left Z));
+    behind = (let k : inner.at ≡ b.at + all_pattern_numbers (patterns (map pattern_of ps)) = omega (arith, at, no_numbers_left) in k);
+  }
+    where
+      no_numbers_left : all_pattern_numbers (patterns (map pattern_of (drop i ps))) ≡ 0
+      no_numbers_left = ap (λ z. all_pattern_numbers (patterns (map pattern_of z))) (drop_all i ps le)
+
+      nothing_left : (Z : Option Sizing) → rules.All_bind Z inner.at (patterns (map pattern_of (drop i ps))) (map known_of (drop j ss)) (scope_of inner.scope) next [] (scope_of inner.scope) next
+      nothing_left Z = subst (λ z. rules.All_bind Z inner.at (patterns (map pattern_of z)) (map known_of (drop j ss)) (scope_of inner.scope) next [] (scope_of inner.scope) next) (sym (drop_all i ps le)) (subst (λ z. rules.All_bind Z inner.at (patterns (map pattern_of [])) (map known_of z) (scope_of inner.scope) next [] (scope_of inner.scope) next) (sym (drop_all j ss le')) b_none)
 
 -- there are not as many of both
 unequal : (ps : List Pat) (ss : List Held_known) → (length ps ≡ length ss → ⊥) → Not_all_bound (patterns (map pattern_of ps)) (map known_of ss)
@@ -314,8 +366,8 @@ unequal [] (s ∷ ss) h z q sc inner n m bs b = elim b [ ]
 unequal (p ∷ ps) [] h z q sc inner n m bs b = elim b [ ]
 unequal (p ∷ ps) (s ∷ ss) h z q sc inner n m bs b = rest_unbound (pattern_of p) (patterns (map pattern_of ps)) (known_of s) (map known_of ss) (unequal ps ss (λ e. h (ap suc e))) z q sc inner n m bs b
 
-pub all_bound_unequal : (ps : List Pat) (ss : List Held_known) (sc : Scope) (n : ℕ) (before after : Bindings) (next : ℕ) → (length ps ≡ length ss → ⊥) → All_bound_to (patterns (map pattern_of ps)) (map known_of ss) sc n before after next (Err Lost)
-all_bound_unequal ps ss sc n before after next h = unanswered (lost (unequal ps ss h))
+pub all_bound_unequal : (S : Held_sizes) (ps : List Pat) (ss : List Held_known) (b : Bound) (n : ℕ) (before after : Bindings) (next : ℕ) → (length ps ≡ length ss → ⊥) → All_bound_from S b (patterns (map pattern_of ps)) (map known_of ss) n before after next (Err Lost)
+all_bound_unequal S ps ss b n before after next h = unanswered (lost (unequal ps ss h))
 
 -- some part has not the form of its pattern
 part_lacks : (ps : List Pat) (ss : List Held_known) (i : ℕ) (p : Pat) (s : Held_known) → i < length ps → i < length ss → Not_bound (pattern_of (get_or ps i p)) (known_of (get_or ss i s)) → Not_all_bound (patterns (map pattern_of ps)) (map known_of ss)
@@ -325,8 +377,8 @@ part_lacks (q ∷ ps) [] i p s lt lt' h = absurd (let z : i < 0 = lt' in omega (
 part_lacks (q ∷ ps) (r ∷ ss) zero p s lt lt' h = first_unbound (pattern_of q) (patterns (map pattern_of ps)) (known_of r) (map known_of ss) h
 part_lacks (q ∷ ps) (r ∷ ss) (suc i) p s lt lt' h = rest_unbound (pattern_of q) (patterns (map pattern_of ps)) (known_of r) (map known_of ss) (part_lacks ps ss i p s (omega (arith, lt)) (omega (arith, lt')) h)
 
-pub all_bound_err : (ps : List Pat) (ss : List Held_known) (sc names : Scope) (n i j mid later : ℕ) (before between behind after : Bindings) (next : ℕ) (p : Pat) (s : Held_known) (r : Refusal) → i ≡ j → i < length ps → j < length ss → Bound_to (pattern_of (get_or ps i p)) (known_of (get_or ss j s)) names mid between behind later (Err r) → All_bound_to (patterns (map pattern_of ps)) (map known_of ss) sc n before after next (Err r)
-all_bound_err ps ss sc names n i j mid later before between behind after next p s r e lt lt' (unanswered h) =
+pub all_bound_err : (S : Held_sizes) (ps : List Pat) (ss : List Held_known) (b names : Bound) (n i j mid later : ℕ) (before between behind after : Bindings) (next : ℕ) (p : Pat) (s : Held_known) (r : Refusal) → i ≡ j → i < length ps → j < length ss → Bound_from S names (pattern_of (get_or ps i p)) (known_of (get_or ss j s)) mid between behind later (Err r) → All_bound_from S b (patterns (map pattern_of ps)) (map known_of ss) n before after next (Err r)
+all_bound_err S ps ss b names n i j mid later before between behind after next p s r e lt lt' (unanswered h) =
     unanswered (refused_as (λ lacks. part_lacks ps ss i p s lt (omega (arith, e, lt')) (subst (λ k. Not_bound (pattern_of (get_or ps i p)) (known_of (get_or ss k s))) (sym e) lacks)) h)
 
 -- ---- the patterns and the names of fields

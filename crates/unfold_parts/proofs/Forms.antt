@@ -18,8 +18,8 @@ use Rattle.unfold.specs.declared.known.Function.{Function}
 use Rattle.unfold.specs.declared.known.Known.{Known as Held_known}
 use Rattle.unfold.specs.declared.known.KnownForm.{KnownForm, KnownForm-F, out-KnownForm, roll-KnownForm, roll-out-KnownForm}
 use Rattle.unfold.specs.declared.known.KnownForm.TheVariants as form
-use Rattle.unfold.specs.declared.known.Names.{Names as Held_names}
 use Rattle.unfold.specs.declared.known.Entered.{Entered as Held_entered}
+use Rattle.unfold.specs.declared.known.Names.{Names as Held_names}
 use Rattle.unfold_parts.specs.Layouts.{shape_of}
 use Rattle.unfold_parts.proofs.Lacking.{No_tuple, No_record, Not_laid_out, tuple_no_scalar, record_no_scalar, function_no_scalar, primitive_no_scalar, scalar_no_tuple, record_no_tuple, function_no_tuple, primitive_no_tuple, scalar_no_record, tuple_no_record, function_no_record, primitive_no_record, function_unlaid, primitive_unlaid}
 

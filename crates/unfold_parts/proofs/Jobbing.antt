@@ -8,13 +8,12 @@ use Rattle.fut_flat.specs.declared.prim.Primitive.{Primitive}
 use Rattle.fut_meaning.specs.Datums.{takes}
 use Rattle.fut_meaning.specs.Knowns.{with_some}
 use Rattle.fut_meaning.specs.Operations.{parameters_of}
-use Rattle.fut_blocks.proofs.Layers.{row_of-Unknown, action_of-Primitive}
+use Rattle.fut_blocks.proofs.Layers.{action_of-Primitive}
 use Rattle.fut_blocks.specs.declared.row.RowShape.{RowShape}
-use Rattle.fut_blocks.specs.declared.row.RowShape.TheVariants as row_shape
 use Rattle.fut_blocks.specs.declared.block.Act.TheVariants as act
 use Rattle.fut_blocks.specs.declared.block.Atom.{Atom}
 use Rattle.fut_blocks.specs.declared.block.Block.{Block}
-use Rattle.fut_blocks.specs.Rows.{Unknown_row, row_of}
+use Rattle.fut_blocks.specs.Rows.{row_of}
 use Rattle.fut_blocks.specs.Plain.{Job as Job_action, action_of, body_of, lets}
 use Rattle.unfold.specs.Held.{known_of}
 use Rattle.unfold.specs.Knowns.{Known}
@@ -22,7 +21,8 @@ use Rattle.unfold.specs.Stuck.{the_function}
 use Rattle.unfold.specs.Unfolding.{Bindings, step, Packs_all, data_known, function_known}
 use Rattle.unfold.specs.declared.known.Known.{Known as Held_known}
 use Rattle.unfold_parts.specs.Answers.{Answered, answered, unanswered, Is_step, is_step, Blocked, blocked, not_blocked, Packed_to, All_packed_to, Are_named, Newly_named, newly_named, not_newly_named}
-use Rattle.unfold_parts.specs.Jobs.{Data_to, data_to, no_data_to, Begun_to, Ended_to, ended_to, not_ended}
+use Rattle.unfold_parts.specs.Told.{Held_sizes}
+use Rattle.unfold_parts.specs.Jobs.{Function_row, Data_to, data_to, no_data_to, Begun_to, Ended_to, ended_to, not_ended}
 use Rattle.unfold_parts.specs.Refused.{lost, no_memory}
 use Rattle.unfold_parts.specs.declared.jobs.Job.{Job}
 use Rattle.unfold_parts.specs.declared.new_names.Named.{Named}
@@ -142,22 +142,22 @@ module _ (p : Primitive) (ss : List Known) (n : ℕ) (before : Bindings) where
 
 -- ---- the end
 
-module _ (mark : ℕ) (p : Primitive) (at : Place) (ws : Bor (List Atom)) (xs : Bor (List ℕ)) (r : Known) (n : ℕ) (before : Bindings) where
-  pub ended : (rows : Bor RowShape) (mid next : ℕ) (between left after : Bindings) (w : Atom) (row : List Atom) (b : Bor Block) (x : Result Held_known Refusal) (later : ℕ) → rows.now ≡ row_shape.Unknown → later ≡ mid → Packed_to r n before between mid (Ok w) → row ≡ w ∷ [] → Blocked mark row between left (Ok b) → Answered (λ bs (s : Held_known) m. Is_step (action_of (act.Primitive p at rows ws xs b)) later bs (known_of s) m) ⊥ left after next x → Ended_to mark p at ws.now xs.now r n before after next x
-  ended rows mid next between left after w row b (Ok s) later unknown same (answered ds e packs) i (blocked parts) (answered bs q h) = by_step bs (known_of s) next q refl refl (subst (λ z. Is_step (action_of (act.Primitive p at rows ws xs b)) z bs (known_of s) next) same h)
+module _ (S : Held_sizes) (mark : ℕ) (p : Primitive) (at : Place) (f : Known) (ws : Bor (List Atom)) (xs : Bor (List ℕ)) (r : Known) (n : ℕ) (before : Bindings) where
+  pub ended : (rows : Bor RowShape) (mid next : ℕ) (between left after : Bindings) (w : Atom) (row : List Atom) (b : Bor Block) (x : Result Held_known Refusal) (later : ℕ) → Function_row S p f ws.now (row_of rows.now) → later ≡ mid → Packed_to r n before between mid (Ok w) → row ≡ w ∷ [] → Blocked mark row between left (Ok b) → Answered (λ bs (s : Held_known) m. Is_step (action_of (act.Primitive p at rows ws xs b)) later bs (known_of s) m) ⊥ left after next x → Ended_to S mark p at f ws.now xs.now r n before after next x
+  ended rows mid next between left after w row b (Ok s) later told same (answered ds e packs) i (blocked parts) (answered bs q h) = by_step bs (known_of s) next q refl refl (subst (λ z. Is_step (action_of (act.Primitive p at rows ws xs b)) z bs (known_of s) next) same h)
     where
       body : (outside inside : Bindings) → length outside ≡ mark → before ≡ outside ++ inside → (left ≡ outside) × (body_of b.now ≡ lets (inside ++ ds) (w ∷ []))
       body outside inside l k = let t = parts outside (inside ++ ds) l (e ∙ ap (λ z. z ++ ds) k ∙ append_assoc outside inside ds) in (t.0, t.1 ∙ ap (lets (inside ++ ds)) i)
 
-      by_step : (bs : Bindings) (t : Known) (m : ℕ) → after ≡ left ++ bs → known_of s ≡ t → next ≡ m → Is_step (action_of (act.Primitive p at rows ws xs b)) mid bs t m → Ended_to mark p at ws.now xs.now r n before after next (Ok s)
-      by_step _ _ _ q k j is_step = ended_to packs (λ outside inside l o. let t = body outside inside l o in q ∙ ap (λ z. z ++ step (mid ∷ []) (action_of (act.Primitive p at rows ws xs b))) t.0 ∙ ap (λ z. outside ++ step (mid ∷ []) z) (action_of-Primitive p at rows ws xs b ∙ ap (λ z. Job_action z p at ws.now xs.now (body_of b.now)) (ap row_of unknown ∙ row_of-Unknown) ∙ ap (Job_action Unknown_row p at ws.now xs.now) t.1)) k j
-  ended rows mid next between left after w row b (Err x) later unknown same h i k (unanswered l) = not_ended (refused_as (λ never. absurd never) l)
+      by_step : (bs : Bindings) (t : Known) (m : ℕ) → after ≡ left ++ bs → known_of s ≡ t → next ≡ m → Is_step (action_of (act.Primitive p at rows ws xs b)) mid bs t m → Ended_to S mark p at f ws.now xs.now r n before after next (Ok s)
+      by_step _ _ _ q k j is_step = ended_to told packs (λ outside inside l o. let t = body outside inside l o in q ∙ ap (λ z. z ++ step (mid ∷ []) (action_of (act.Primitive p at rows ws xs b))) t.0 ∙ ap (λ z. outside ++ step (mid ∷ []) z) (action_of-Primitive p at rows ws xs b ∙ ap (Job_action (row_of rows.now) p at ws.now xs.now) t.1)) k j
+  ended rows mid next between left after w row b (Err x) later told same h i k (unanswered l) = not_ended (refused_as (λ never. absurd never) l)
 
-  pub unended : (mid next : ℕ) (between after : Bindings) (x : Refusal) → Packed_to r n before between mid (Err x) → Ended_to mark p at ws.now xs.now r n before after next (Err x)
+  pub unended : (mid next : ℕ) (between after : Bindings) (x : Refusal) → Packed_to r n before between mid (Err x) → Ended_to S mark p at f ws.now xs.now r n before after next (Err x)
   unended mid next between after x (unanswered h) = not_ended h
 
-  pub ended_memory : (next : ℕ) (after : Bindings) (x : Refusal) → x ≡ Memory → Ended_to mark p at ws.now xs.now r n before after next (Err x)
+  pub ended_memory : (next : ℕ) (after : Bindings) (x : Refusal) → x ≡ Memory → Ended_to S mark p at f ws.now xs.now r n before after next (Err x)
   ended_memory next after x e = not_ended (only_memory e)
 
-  pub unblocked : {m : ℕ} {us : List Atom} {older newer : Bindings} (next : ℕ) (after : Bindings) (x : Refusal) → Blocked m us older newer (Err x) → Ended_to mark p at ws.now xs.now r n before after next (Err x)
+  pub unblocked : {m : ℕ} {us : List Atom} {older newer : Bindings} (next : ℕ) (after : Bindings) (x : Refusal) → Blocked m us older newer (Err x) → Ended_to S mark p at f ws.now xs.now r n before after next (Err x)
   unblocked next after _ not_blocked = not_ended no_memory

@@ -15,6 +15,7 @@ pub mod Parting
 pub mod Sorting
 pub mod Fielding
 pub mod Binding
+pub mod Testing
 pub mod Operands
 pub mod Pairing
 pub mod Operated

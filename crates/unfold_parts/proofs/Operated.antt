@@ -30,7 +30,7 @@ use Rattle.fut_flat.specs.declared.prim.Ref.{Ref}
 use Rattle.fut_flat.specs.declared.ty.TypeExp.{TypeExp}
 use Rattle.fut_flat.specs.Erased.{operation_of, texts, type_of}
 use Rattle.fut_flat.specs.Terms.{Operation, Integer, Truth, Tuple_of, Record_of, Binary, Negate, Complement, Project, Replace, Ascribe, Coerce, Declared, Assert, Array_of, Index, Update, Range}
-use Rattle.fut_blocks.proofs.Layers.{row_of-Unknown, binding_of-made, action_of-Operate, action_of-Make}
+use Rattle.fut_blocks.proofs.Layers.{binding_of-made, action_of-Operate, action_of-Make}
 use Rattle.fut_blocks.specs.declared.block.Act.TheVariants as act
 use Rattle.fut_blocks.specs.declared.block.Atom.{Atom}
 use Rattle.fut_blocks.specs.declared.block.Atom.TheVariants as atom
@@ -38,25 +38,33 @@ use Rattle.fut_blocks.specs.declared.block.Making.{Making as Held_making}
 use Rattle.fut_blocks.specs.declared.block.Making.TheVariants as make
 use Rattle.fut_blocks.specs.declared.block.Operation.TheVariants as operation
 use Rattle.fut_blocks.specs.declared.row.RowShape.{RowShape}
-use Rattle.fut_blocks.specs.declared.row.RowShape.TheVariants as row_shape
 use Rattle.fut_blocks.specs.declared.block.Step.{roll-Step}
 use Rattle.fut_blocks.specs.Meaning.{fitted}
-use Rattle.fut_blocks.specs.Rows.{Unknown_row, row_of}
+use Rattle.fut_blocks.specs.Rows.{Row, Unknown_row, row_of, test_of}
 use Rattle.fut_blocks.specs.Plain.{Action, Operate, Make, Read, Part_at, Replace_at, making_form, action_of, binding_of}
 use Rattle.fut_meaning.specs.Arrays.{Making, Make_array, Make_index, Make_update, Make_range}
 use Rattle.fut_meaning.specs.Operations.{arity, making, is_of_scalars}
 use Rattle.fut_meaning.specs.Operators.{integer}
 use Rattle.unfold.proofs.Mirror.{known_scalar, known_tuple, known_record, known_primitive}
 use Rattle.unfold.specs.Held.{known_of, field_of, fields_known}
-use Rattle.unfold.specs.Knowns.{Known, Scalar_known, Record_known, Primitive_known, Knowns, listed, knowns, replaced, part}
+use Rattle.unfold.specs.Knowns.{Known, Scalar_known, Record_known, Primitive_known, Knowns, Scope, listed, knowns, replaced, part}
 use Rattle.unfold.specs.Stuck.{No_operation, No_primitive, No_scalar, no_primitive}
 use Rattle.unfold.specs.Unfolding.{Bindings, step, named, constant, literal_type, Equals, o_integer, o_truth, o_tuple, o_record, o_binary, o_equal, o_unequal, o_negate, o_complement, o_project, o_part, o_changed, o_made, o_replace, o_ascribe, o_coerce, o_declared, o_assert, Primitive_operates, p_convert, p_min, p_max, p_abs, p_popc, Packs, Packs_all, a_primitive_waits, a_primitive}
 use Rattle.unfold.specs.Unfolding.{made_row}
-use Rattle.unfold_parts.specs.Unsized.{Operates, Applies}
+use Rattle.fut_blocks.specs.Plain as plain
+use Rattle.fut_blocks.specs.declared.row.SizeTest.{SizeTest}
+use Rattle.fut_meaning.specs.Found.{Sizing, Told}
+use Rattle.told_rows.specs.Calls.{maybe_test}
+use Rattle.told_rows.specs.Tables.{Told_by}
+use Rattle.unfold.specs.Telling.{known_row, literal_row, test_at}
+use Rattle.unfold.specs.Unfolding as rules
+use Rattle.unfold_parts.specs.Tables.{integer_at}
+use Rattle.unfold_parts.specs.Told.{Operates, Tell}
+use Rattle.unfold_parts.specs.declared.told.Told.{Told as Held_told}
 use Rattle.unfold.specs.declared.known.Field.{Field}
 use Rattle.unfold.specs.declared.known.Known.{Known as Held_known}
 use Rattle.unfold.specs.declared.known.KnownForm.TheVariants as form
-use Rattle.unfold_parts.specs.Answers.{Answered, answered, unanswered, Pushed, pushed, not_pushed, Computed, computed, not_computed, Is_step, is_step, On_one, on_one, On_two, on_two, At_once, at_once, not_at_once, Made, made, Made_to, Changed, changed, Changed_to, Packed_to, All_packed_to, Operated, Operated_primitive, Applied_primitive, primitive_applied, primitive_ready, primitive_refused, Equal_to, both_equal, Both_equal_to}
+use Rattle.unfold_parts.specs.Answers.{Answered, answered, unanswered, Pushed, pushed, not_pushed, Computed, computed, not_computed, Is_step, is_step, On_one, on_one, On_two, on_two, At_once, at_once, not_at_once, Made, made, Made_to, Changed, changed, Changed_to, Packed_to, All_packed_to, Operated, Operated_at, Coerced_at, Is_tested, is_tested, Tested_to, Operated_primitive, Applied_primitive, primitive_applied, primitive_ready, primitive_refused, Equal_to, both_equal, Both_equal_to}
 use Rattle.unfold_parts.specs.Parts.{Not_one, Not_one_scalar, Not_two_scalars, Is_scalar, a_scalar, no_scalar, Is_one_scalar, one_scalar, not_one_scalar, Is_two_scalars, two_scalars, not_two_scalars, Constant_to, constant_to, not_constant, One_to, one_to, not_one_to, is_record, Recorded_to, recorded_to, not_recorded}
 use Rattle.unfold_parts.specs.Refused.{lost, no_memory, Not_all_packed, Not_compared}
 use Rattle.unfold_parts.specs.declared.primitives.Applied.{Applied}
@@ -128,10 +136,10 @@ module _ (ss : List Known) (n next : ℕ) (before after : Bindings) (r : Result 
   Two op at = Answered (λ bs (s : Held_known) next. On_two op at ss n bs (known_of s) next) (Not_two_scalars ss) before after next r
 
   pub negated : (t : IntType) (at : Place) → One unary.Neg → Operated t Negate at ss n before after next r
-  negated t at h = answered_as (λ bs s m x. on_one_as (Operates t Negate at) unary.Neg (λ u k. o_negate (le_refl k)) ss n bs (known_of s) m x) (negate_lacks t at ss) h
+  negated t at h = answered_as (λ bs s m x. on_one_as (Operates t Negate at) unary.Neg (λ u k row test. o_negate (le_refl k)) ss n bs (known_of s) m x) (negate_lacks t at ss) h
 
   pub complemented : (t : IntType) (at : Place) → One unary.Not → Operated t Complement at ss n before after next r
-  complemented t at h = answered_as (λ bs s m x. on_one_as (Operates t Complement at) unary.Not (λ u k. o_complement (le_refl k)) ss n bs (known_of s) m x) (complement_lacks t at ss) h
+  complemented t at h = answered_as (λ bs s m x. on_one_as (Operates t Complement at) unary.Not (λ u k row test. o_complement (le_refl k)) ss n bs (known_of s) m x) (complement_lacks t at ss) h
 
   pub abs_ok : (t : IntType) (at : Place) → One unary.Abs → Operated_primitive (prim.Abs t) at ss n before after next r
   abs_ok t at h = answered_as (λ bs s m x. on_one_as (Primitive_operates (prim.Abs t) at) unary.Abs (λ u k. p_abs (le_refl k)) ss n bs (known_of s) m x) (abs_lacks at t ss) h
@@ -140,7 +148,7 @@ module _ (ss : List Known) (n next : ℕ) (before after : Bindings) (r : Result 
   popc_ok t at h = answered_as (λ bs s m x. on_one_as (Primitive_operates (prim.Popc t) at) unary.Popc (λ u k. p_popc (le_refl k)) ss n bs (known_of s) m x) (popc_lacks at t ss) h
 
   pub binary_is : (t : IntType) (op : BinOp) (at : Place) → (op ≡ binary.Eq → ⊥) → (op ≡ binary.Ne → ⊥) → Two op at → Operated t (Binary op) at ss n before after next r
-  binary_is t op at e e' h = answered_as (λ bs s m x. on_two_as (Operates t (Binary op) at) op at (λ u w k. o_binary (le_refl k)) ss n bs (known_of s) m x) (binary_lacks t at op ss e e') h
+  binary_is t op at e e' h = answered_as (λ bs s m x. on_two_as (Operates t (Binary op) at) op at (λ u w k row test. o_binary (le_refl k)) ss n bs (known_of s) m x) (binary_lacks t at op ss e e') h
 
   pub min_ok : (t : IntType) (at : Place) → Two binary.Min at → Operated_primitive (prim.Min t) at ss n before after next r
   min_ok t at h = answered_as (λ bs s m x. on_two_as (Primitive_operates (prim.Min t) at) binary.Min at (λ u w k. p_min (le_refl k)) ss n bs (known_of s) m x) (min_lacks at t ss) h
@@ -169,7 +177,7 @@ module _ (at : Place) (op : BinOp) (ss : List Known) (n next : ℕ) (before afte
   equal_is t u s e h i = as_binary t binary.Eq (Ok s) e (ok h)
     where
       ok : Both_equal_to at ss n before after next (Ok u) → Operated t (Binary binary.Eq) at ss n before after next (Ok s)
-      ok (answered bs q (both_equal {s = c} {t = d} f x)) = answered bs q (subst (λ z. Operates t (Binary binary.Eq) at z n bs (known_of s) next) (sym f) (subst (λ z. Operates t (Binary binary.Eq) at (c ∷ d ∷ []) n bs z next) (sym (known_scalar s u i)) (o_equal x)))
+      ok (answered bs q (both_equal {s = c} {t = d} f x)) = answered bs q (subst (λ z. Operates t (Binary binary.Eq) at z n bs (known_of s) next) (sym f) (subst (λ z. Operates t (Binary binary.Eq) at (c ∷ d ∷ []) n bs z next) (sym (known_scalar s u i)) (λ row test. o_equal x)))
 
   pub equal_err : (t : IntType) (mid : ℕ) (between : Bindings) (x : Refusal) → op ≡ binary.Eq → Both_equal_to at ss n before between mid (Err x) → Operated t (Binary op) at ss n before after next (Err x)
   equal_err t mid between x e (unanswered h) = as_binary t binary.Eq (Err x) e (unanswered (refused_as (equal_lacks t at ss) h))
@@ -181,7 +189,7 @@ module _ (at : Place) (op : BinOp) (ss : List Known) (n next : ℕ) (before afte
   unequal_is t mid between u r e h k = as_binary t binary.Ne r e (both r h k)
     where
       by_step : (c d : Known) (bs cs : Bindings) (s : Known) (m : ℕ) → ss ≡ c ∷ d ∷ [] → Equals at c d n bs u mid → Is_step (Operate (operation.Unary unary.Not u)) mid cs s m → Operates t (Binary binary.Ne) at ss n (bs ++ cs) s m
-      by_step c d bs _ _ _ f x is_step = subst (λ z. Operates t (Binary binary.Ne) at z n (bs ++ step (mid ∷ []) (Operate (operation.Unary unary.Not u))) (named mid) (suc mid)) (sym f) (o_unequal x (le_refl mid))
+      by_step c d bs _ _ _ f x is_step = subst (λ z. Operates t (Binary binary.Ne) at z n (bs ++ step (mid ∷ []) (Operate (operation.Unary unary.Not u))) (named mid) (suc mid)) (sym f) (λ row test. o_unequal x (le_refl mid))
 
       both : (r : Result Held_known Refusal) → Both_equal_to at ss n before between mid (Ok u) → Answered (λ bs (s : Held_known) m. Is_step (Operate (operation.Unary unary.Not u)) mid bs (known_of s) m) ⊥ between after next r → Operated t (Binary binary.Ne) at ss n before after next r
       both (Ok s) (answered bs q (both_equal {s = c} {t = d} f x)) (answered cs k y) = answered (bs ++ cs) (k ∙ ap (λ z. z ++ cs) q ∙ append_assoc before bs cs) (by_step c d bs cs (known_of s) next f x y)
@@ -195,7 +203,7 @@ pub assert_ok : (t : IntType) (at : Place) (ss : List Held_known) (c d : Held_kn
 assert_ok t at ss c d n before after u none x i (a_scalar q) k (pushed h) =
     answered (step [] (Operate (operation.Assert at u))) (h ∙ ap (λ z. before ++ z ∷ []) (binding_of-made (record { names = none; act = act.Operate (operation.Assert at u) }) ∙ ap (λ z. (z, action_of (act.Operate (operation.Assert at u)))) k ∙ ap (λ z. ([], z)) (action_of-Operate (operation.Assert at u))))
     (subst (λ z. Operates t Assert at z n (step [] (Operate (operation.Assert at u))) (known_of (get_or ss 0 d)) n) (sym (one_is ss c i ∙ ap (λ z. z ∷ []) q))
-    (subst (λ z. Operates t Assert at (Scalar_known u ∷ []) n (step [] (Operate (operation.Assert at u))) z n) (sym (ap known_of (same_first ss c d i) ∙ q)) o_assert))
+    (subst (λ z. Operates t Assert at (Scalar_known u ∷ []) n (step [] (Operate (operation.Assert at u))) z n) (sym (ap known_of (same_first ss c d i) ∙ q)) (λ row test. o_assert)))
 
 module _ (t : IntType) (at : Place) (ss : List Held_known) (n next : ℕ) (before after : Bindings) where
   pub assert_many : (length ss ≡ 1 → ⊥) → Operated t Assert at (map known_of ss) n before after next (Err Lost)
@@ -228,14 +236,14 @@ module _ (c : Scalar) (ss : List Held_known) where
 
 module _ (t : IntType) (at : Place) (f : Text) (ss : List Held_known) (n : ℕ) (before : Bindings) where
   pub project_ok : (c s : Held_known) → length ss ≡ 1 → Some (known_of s) ≡ part f (known_of (get_or ss 0 c)) → Operated t (Project f) at (map known_of ss) n before before n (Ok s)
-  project_ok c s i h = no_steps (λ bs (s : Held_known) next. Operates t (Project f) at (map known_of ss) n bs (known_of s) next) (No_operation t (Project f) at (map known_of ss)) before n s (subst (λ z. Operates t (Project f) at z n [] (known_of s) n) (sym (one_is ss c i)) (o_project (sym h)))
+  project_ok c s i h = no_steps (λ bs (s : Held_known) next. Operates t (Project f) at (map known_of ss) n bs (known_of s) next) (No_operation t (Project f) at (map known_of ss)) before n s (subst (λ z. Operates t (Project f) at z n [] (known_of s) n) (sym (one_is ss c i)) (λ row test. o_project (sym h)))
 
   module _ (after : Bindings) (next : ℕ) where
     pub project_read : (c : Held_known) (u : Atom) (r : Result Held_known Refusal) → length ss ≡ 1 → Is_scalar (known_of (get_or ss 0 c)) (Some u) → Answered (λ bs (s : Held_known) m. Is_step (Read (Part_at f) (u ∷ [])) n bs (known_of s) m) ⊥ before after next r → Operated t (Project f) at (map known_of ss) n before after next r
     project_read c u r i (a_scalar e) h = answered_as (λ bs s m x. by_step bs (known_of s) m x) (λ never. absurd never) h
       where
         by_step : (bs : Bindings) (s : Known) (m : ℕ) → Is_step (Read (Part_at f) (u ∷ [])) n bs s m → Operates t (Project f) at (map known_of ss) n bs s m
-        by_step _ _ _ is_step = subst (λ z. Operates t (Project f) at z n (step (n ∷ []) (Read (Part_at f) (u ∷ []))) (named n) (suc n)) (sym (one_is ss c i ∙ ap (λ z. z ∷ []) e)) (o_part (le_refl n))
+        by_step _ _ _ is_step = subst (λ z. Operates t (Project f) at z n (step (n ∷ []) (Read (Part_at f) (u ∷ []))) (named n) (suc n)) (sym (one_is ss c i ∙ ap (λ z. z ∷ []) e)) (λ row test. o_part (le_refl n))
 
     pub project_none : (c d : Held_known) → length ss ≡ 1 → Is_scalar (known_of (get_or ss 0 c)) None → None ≡ part f (known_of (get_or ss 0 d)) → Operated t (Project f) at (map known_of ss) n before after next (Err Lost)
     project_none c d i (no_scalar lacks) h = unanswered (lost (subst (No_operation t (Project f) at) (sym (one_is ss d i)) (project_lacks t at f (known_of (get_or ss 0 d)) (sym h) (subst (λ z. No_scalar (known_of z)) (sym (same_first ss c d i)) lacks))))
@@ -246,7 +254,7 @@ module _ (t : IntType) (at : Place) (f : Text) (ss : List Held_known) (n : ℕ) 
 pub replace_ok : (t : IntType) (at : Place) (f : Text) (ss : List Held_known) (n : ℕ) (before : Bindings) (c d : Held_known) (fs gs : Bor (List Field)) (s : Held_known) → length ss ≡ 2 → (get_or ss 0 c).form ≡ form.Record fs → s.form ≡ form.Record gs → fields_known (map field_of gs.now) ≡ replaced f (known_of (get_or ss 1 d)) (fields_known (map field_of fs.now)) → Operated t (Replace f) at (map known_of ss) n before before n (Ok s)
 replace_ok t at f ss n before c d fs gs s i2 i j q =
     no_steps (λ bs (s : Held_known) next. Operates t (Replace f) at (map known_of ss) n bs (known_of s) next) (No_operation t (Replace f) at (map known_of ss)) before n s
-    (subst (λ z. Operates t (Replace f) at z n [] (known_of s) n) (sym (two_are ss c d i2 ∙ ap (λ z. z ∷ known_of (get_or ss 1 d) ∷ []) (known_record (get_or ss 0 c) fs i))) (subst (λ z. Operates t (Replace f) at (Record_known (fields_known (map field_of fs.now)) ∷ known_of (get_or ss 1 d) ∷ []) n [] z n) (sym (known_record s gs j ∙ ap Record_known q)) o_replace))
+    (subst (λ z. Operates t (Replace f) at z n [] (known_of s) n) (sym (two_are ss c d i2 ∙ ap (λ z. z ∷ known_of (get_or ss 1 d) ∷ []) (known_record (get_or ss 0 c) fs i))) (subst (λ z. Operates t (Replace f) at (Record_known (fields_known (map field_of fs.now)) ∷ known_of (get_or ss 1 d) ∷ []) n [] z n) (sym (known_record s gs j ∙ ap Record_known q)) (λ row test. o_replace)))
 
 module _ (t : IntType) (at : Place) (f : Text) (ss : List Held_known) (n : ℕ) (before after : Bindings) (next : ℕ) where
   pub replace_many : (length ss ≡ 2 → ⊥) → Operated t (Replace f) at (map known_of ss) n before after next (Err Lost)
@@ -263,7 +271,7 @@ module _ (t : IntType) (at : Place) (f : Text) (ss : List Held_known) (n : ℕ) 
       by_steps bs s m (changed {m = k} {cs = cs} {w = w} p x e) = subst (λ z. Operates t (Replace f) at (Scalar_known u ∷ known_of (get_or ss 1 d) ∷ []) n z s m) (sym e) (one p x)
         where
           one : {ds : Bindings} {s : Known} {m : ℕ} → Packs (known_of (get_or ss 1 d)) n cs w k → Is_step (Read (Replace_at f) (u ∷ w ∷ [])) k ds s m → Operates t (Replace f) at (Scalar_known u ∷ known_of (get_or ss 1 d) ∷ []) n (cs ++ ds) s m
-          one p is_step = o_changed p (le_refl k)
+          one p is_step = λ row test. o_changed p (le_refl k)
 
   pub replace_err : (x : Refusal) → x ≡ Memory → Operated t (Replace f) at (map known_of ss) n before after next (Err x)
   replace_err x e = unanswered (only_memory e)
@@ -300,13 +308,6 @@ same_many ss h = not_one_to (not_one ss h)
 
 -- ---- by act
 
--- nothing is told of rows
-no_row : (k : Making) → made_row Unknown_row k ≡ Unknown_row
-no_row Make_array = refl
-no_row (Make_index ps) = refl
-no_row Make_update = refl
-no_row (Make_range stepped end) = refl
-
 module _ (t : IntType) (a : Act) (at : Place) (n : ℕ) (before : Bindings) where
   module _ (ss : List Known) (next : ℕ) (after : Bindings) (r : Result Held_known Refusal) where
     as_act : (o : Operation Ref BindId) → operation_of a ≡ o → Operated t o at ss n before after next r → Operated t (operation_of a) at ss n before after next r
@@ -328,30 +329,26 @@ module _ (t : IntType) (a : Act) (at : Place) (n : ℕ) (before : Bindings) wher
     act_replace f e h = as_act (Replace f.now) (ap operation_of e) h
 
     -- what is made of the parts
-    made_as : (o : Operation Ref BindId) (k : Making) (f : List Atom → Action) → operation_of a ≡ o → making o ≡ Some k → ((us : List Atom) → f us ≡ Make Unknown_row k at us) → (Not_all_packed ss → No_operation t o at ss) → Made_to f ss n before after next r → Operated t (operation_of a) at ss n before after next r
-    made_as o k f e q same lacks h = as_act o e (answered_as (λ bs s m x. by_steps bs (known_of s) m x) lacks h)
+    made_as : (o : Operation Ref BindId) (k : Making) (f : List Atom → Action) → operation_of a ≡ o → making o ≡ Some k → ((row : Row) → made_row row k ≡ Unknown_row) → ((us : List Atom) → f us ≡ Make Unknown_row k at us) → (Not_all_packed ss → No_operation t o at ss) → Made_to f ss n before after next r → Operated t (operation_of a) at ss n before after next r
+    made_as o k f e q none same lacks h = as_act o e (answered_as (λ bs s m x. by_steps bs (known_of s) m x) lacks h)
       where
         one : {us : List Atom} {k' m : ℕ} {cs ds : Bindings} {s : Known} → Packs_all ss n cs us k' → Is_step (f us) k' ds s m → Operates t o at ss n (cs ++ ds) s m
-        one {us} {k'} {cs = cs} p is_step = subst (λ z. Operates t o at ss n (cs ++ step (k' ∷ []) z) (named k') (suc k')) (sym (same us ∙ ap (λ z. Make z k at us) (sym (no_row k)))) (o_made q p (le_refl k'))
+        one {us} {k'} {cs = cs} p is_step row test = subst (λ z. rules.Operates row test t o at ss n (cs ++ step (k' ∷ []) z) (named k') (suc k')) (ap (λ z. Make z k at us) (none row) ∙ sym (same us)) (o_made q p (le_refl k'))
 
         by_steps : (bs : Bindings) (s : Known) (m : ℕ) → Made f ss n bs s m → Operates t o at ss n bs s m
         by_steps bs s m (made p x e) = subst (λ z. Operates t o at ss n z s m) (sym e) (one p x)
 
-    pub act_array : (rows : Bor RowShape) → a ≡ flat.Array → rows.now ≡ row_shape.Unknown → Made_to (making_form (make.Array rows) at) ss n before after next r → Operated t (operation_of a) at ss n before after next r
-    unfolding making_form
-    act_array rows e unknown h = made_as Array_of Make_array (making_form (make.Array rows) at) (ap operation_of e) refl (λ us. ap (λ z. Make z Make_array at us) (ap row_of unknown ∙ row_of-Unknown)) (array_lacks t at ss) h
-
     pub act_index : (ps : Bor (List Part)) → a ≡ flat.Index ps → Made_to (making_form (make.Index ps) at) ss n before after next r → Operated t (operation_of a) at ss n before after next r
     unfolding making_form
-    act_index ps e h = made_as (Index ps.now) (Make_index ps.now) (making_form (make.Index ps) at) (ap operation_of e) refl (λ us. refl) (index_lacks t at ps.now ss) h
+    act_index ps e h = made_as (Index ps.now) (Make_index ps.now) (making_form (make.Index ps) at) (ap operation_of e) refl (λ row. refl) (λ us. refl) (index_lacks t at ps.now ss) h
 
     pub act_update : a ≡ flat.Update → Made_to (making_form make.Update at) ss n before after next r → Operated t (operation_of a) at ss n before after next r
     unfolding making_form
-    act_update e h = made_as Update Make_update (making_form make.Update at) (ap operation_of e) refl (λ us. refl) (update_lacks t at ss) h
+    act_update e h = made_as Update Make_update (making_form make.Update at) (ap operation_of e) refl (λ row. refl) (λ us. refl) (update_lacks t at ss) h
 
     pub act_range : (stepped : Bool) (end : End) → a ≡ flat.Range stepped end → Made_to (making_form (make.Range stepped end) at) ss n before after next r → Operated t (operation_of a) at ss n before after next r
     unfolding making_form
-    act_range stepped end e h = made_as (Range stepped end) (Make_range stepped end) (making_form (make.Range stepped end) at) (ap operation_of e) refl (λ us. refl) (range_lacks t at stepped end ss) h
+    act_range stepped end e h = made_as (Range stepped end) (Make_range stepped end) (making_form (make.Range stepped end) at) (ap operation_of e) refl (λ row. refl) (λ us. refl) (range_lacks t at stepped end ss) h
 
     pub act_assert : a ≡ flat.Assert → Operated t Assert at ss n before after next r → Operated t (operation_of a) at ss n before after next r
     act_assert e h = as_act Assert (ap operation_of e) h
@@ -368,16 +365,16 @@ module _ (t : IntType) (a : Act) (at : Place) (n : ℕ) (before : Bindings) wher
         is _ (not_constant lacks) = unanswered (lost (g lacks))
 
     pub act_integer : (m : ℕ) (suffix : Option IntType) (u : IntType) → a ≡ flat.Int m suffix → u ≡ literal_type t suffix → Constant_to (scalar.Int u m) ss r → Operated t (operation_of a) at ss n before before n r
-    act_integer m suffix u e q h = constant_as (Integer m suffix) (scalar.Int u m) (ap operation_of e) (λ i. subst (λ z. Operates t (Integer m suffix) at z n [] (constant (scalar.Int u m)) n) (sym i) (o_integer (fitted_integer u m ∙ ap (λ z. integer z (pos m)) q))) (integer_lacks t at m suffix ss) h
+    act_integer m suffix u e q h = constant_as (Integer m suffix) (scalar.Int u m) (ap operation_of e) (λ i. subst (λ z. Operates t (Integer m suffix) at z n [] (constant (scalar.Int u m)) n) (sym i) (λ row test. o_integer (fitted_integer u m ∙ ap (λ z. integer z (pos m)) q))) (integer_lacks t at m suffix ss) h
 
     pub act_truth : (b : Bool) → a ≡ flat.Truth b → Constant_to (scalar.Bool b) ss r → Operated t (operation_of a) at ss n before before n r
-    act_truth b e h = constant_as (Truth b) (scalar.Bool b) (ap operation_of e) (λ i. subst (λ z. Operates t (Truth b) at z n [] (constant (scalar.Bool b)) n) (sym i) o_truth) (truth_lacks t at b ss) h
+    act_truth b e h = constant_as (Truth b) (scalar.Bool b) (ap operation_of e) (λ i. subst (λ z. Operates t (Truth b) at z n [] (constant (scalar.Bool b)) n) (sym i) (λ row test. o_truth)) (truth_lacks t at b ss) h
 
     pub act_record : (fs : Bor (List (Bor Text))) → a ≡ flat.Record fs → Recorded_to (texts fs.now) ss r → Operated t (operation_of a) at ss n before before n r
     act_record fs e h = now_as (Record_of (texts fs.now)) (ap operation_of e) (is_made r h)
       where
         is_made : (r : Result Held_known Refusal) → Recorded_to (texts fs.now) ss r → At_once (Record_of (texts fs.now)) ss r
-        is_made (Ok s) (recorded_to (is_record q i)) = at_once (λ u at n. subst (λ z. Operates u (Record_of (texts fs.now)) at ss n [] z n) (sym i) (o_record q))
+        is_made (Ok s) (recorded_to (is_record q i)) = at_once (λ u at n. subst (λ z. Operates u (Record_of (texts fs.now)) at ss n [] z n) (sym i) (λ row test. o_record q))
         is_made (Err r) (not_recorded h) = not_at_once (refused_as (λ lacks u at. record_lacks u at (texts fs.now) ss lacks) h)
 
     -- what has one part is as that part
@@ -386,16 +383,55 @@ module _ (t : IntType) (a : Act) (at : Place) (n : ℕ) (before : Bindings) wher
     same_as o f g _ (not_one_to lacks) = not_at_once (lost (λ u at. g u at lacks))
 
     pub act_ascribe : (u : Bor TypeExp) → a ≡ flat.Ascribe u → One_to ss r → Operated t (operation_of a) at ss n before before n r
-    act_ascribe u e h = now_as (Ascribe (type_of u.now)) (ap operation_of e) (same_as (Ascribe (type_of u.now)) (λ v at n s. o_ascribe) (λ v at. ascribe_lacks v at (type_of u.now) ss) r h)
-
-    pub act_coerce : (u : Bor TypeExp) → a ≡ flat.Coerce u → One_to ss r → Operated t (operation_of a) at ss n before before n r
-    act_coerce u e h = now_as (Coerce (type_of u.now)) (ap operation_of e) (same_as (Coerce (type_of u.now)) (λ v at n s. o_coerce) (λ v at. coerce_lacks v at (type_of u.now) ss) r h)
+    act_ascribe u e h = now_as (Ascribe (type_of u.now)) (ap operation_of e) (same_as (Ascribe (type_of u.now)) (λ v at n s row test. o_ascribe) (λ v at. ascribe_lacks v at (type_of u.now) ss) r h)
 
     pub act_declared : (u : Bor TypeExp) → a ≡ flat.Declared u → One_to ss r → Operated t (operation_of a) at ss n before before n r
-    act_declared u e h = now_as (Declared (type_of u.now)) (ap operation_of e) (same_as (Declared (type_of u.now)) (λ v at n s. o_declared) (λ v at. declared_lacks v at (type_of u.now) ss) r h)
+    act_declared u e h = now_as (Declared (type_of u.now)) (ap operation_of e) (same_as (Declared (type_of u.now)) (λ v at n s row test. o_declared) (λ v at. declared_lacks v at (type_of u.now) ss) r h)
 
   pub act_tuple : (ss : Bor (List Held_known)) (s : Held_known) → a ≡ flat.Tuple → s.form ≡ form.Tuple ss → Operated t (operation_of a) at (map known_of ss.now) n before before n (Ok s)
-  act_tuple ss s e i = now_as (map known_of ss.now) (Ok s) Tuple_of (ap operation_of e) (at_once (λ u at n. subst (λ z. Operates u Tuple_of at (map known_of ss.now) n [] z n) (sym (known_tuple s ss i)) o_tuple))
+  act_tuple ss s e i = now_as (map known_of ss.now) (Ok s) Tuple_of (ap operation_of e) (at_once (λ u at n. subst (λ z. Operates u Tuple_of at (map known_of ss.now) n [] z n) (sym (known_tuple s ss i)) (λ row test. o_tuple)))
+
+-- ---- at a node, under the names of a scope
+
+module _ (T : Held_told) (sc : Scope) (lo : ℕ) (at : Place) (n : ℕ) (before : Bindings) where
+  -- what is done whatever is told of rows and sizes
+  pub plainly : (t : IntType) (o : Operation Ref BindId) (ss : List Known) (after : Bindings) (next : ℕ) (r : Result Held_known Refusal) → t ≡ integer_at T.types.now lo → Operated t o at ss n before after next r → Operated_at T sc lo o at ss n before after next r
+  plainly t o ss after next (Ok s) e (answered bs g h) = answered bs g (λ told i. subst (λ z. rules.Operates (literal_row told.sizes sc lo) (test_at told.sizes sc lo) z o at ss n bs (known_of s) next) (e ∙ sym (i.integers lo)) (h (literal_row told.sizes sc lo) (test_at told.sizes sc lo)))
+  plainly t o ss after next (Err x) e (unanswered h) = unanswered (refused_as (subst (λ z. No_operation z o at ss) e) h)
+
+  module _ (a : Act) (ss : List Known) (after : Bindings) (next : ℕ) (r : Result Held_known Refusal) where
+    pub act_array : a ≡ flat.Array → Operated_at T sc lo Array_of at ss n before after next r → Operated_at T sc lo (operation_of a) at ss n before after next r
+    act_array e h = subst (λ z. Operated_at T sc lo z at ss n before after next r) (sym (ap operation_of e)) h
+
+    pub act_coerce : (u : Bor TypeExp) → a ≡ flat.Coerce u → Coerced_at T sc lo at ss n before after next r → Operated_at T sc lo (operation_of a) at ss n before after next r
+    act_coerce u e h = subst (λ z. Operated_at T sc lo z at ss n before after next r) (sym (ap operation_of e)) (h (type_of u.now))
+
+  -- an array literal, of whose rows the shape is told
+  pub literal_is : (row : Bor RowShape) (ss : List Known) (after : Bindings) (next : ℕ) (r : Result Held_known Refusal) → ((Z : Option Sizing) → Told_by T.sizes Z → row_of row.now ≡ literal_row Z sc lo) → Made_to (making_form (make.Array row) at) ss n before after next r → Operated_at T sc lo Array_of at ss n before after next r
+  unfolding making_form
+  literal_is row ss after next r e h = answered_as (λ bs s m x told i. by_steps told i bs (known_of s) m x) (array_lacks (integer_at T.types.now lo) at ss) h
+    where
+      one : (told : Told) → Tell T told → {us : List Atom} {k m : ℕ} {cs ds : Bindings} {s : Known} → Packs_all ss n cs us k → Is_step (Make (row_of row.now) Make_array at us) k ds s m → rules.Operates (literal_row told.sizes sc lo) (test_at told.sizes sc lo) (told.integer_at lo) Array_of at ss n (cs ++ ds) s m
+      one told i {us} {k} {cs = cs} p is_step = subst (λ z. rules.Operates (literal_row told.sizes sc lo) (test_at told.sizes sc lo) (told.integer_at lo) Array_of at ss n (cs ++ step (k ∷ []) (Make z Make_array at us)) (named k) (suc k)) (sym (e told.sizes i.sizes)) (o_made refl p (le_refl k))
+
+      by_steps : (told : Told) → Tell T told → (bs : Bindings) (s : Known) (m : ℕ) → Made (making_form (make.Array row) at) ss n bs s m → rules.Operates (literal_row told.sizes sc lo) (test_at told.sizes sc lo) (told.integer_at lo) Array_of at ss n bs s m
+      by_steps told i bs s m (made p x q) = subst (λ z. rules.Operates (literal_row told.sizes sc lo) (test_at told.sizes sc lo) (told.integer_at lo) Array_of at ss n z s m) (sym q) (one told i p x)
+
+  module _ (ss : List Held_known) (after : Bindings) (next : ℕ) where
+    -- data of a written type
+    pub coerced_many : (length ss ≡ 1 → ⊥) → Coerced_at T sc lo at (map known_of ss) n before after next (Err Lost)
+    coerced_many h t = unanswered (lost (coerce_lacks (integer_at T.types.now lo) at t (map known_of ss) (not_one ss h)))
+
+    pub coerced_test : (o : Option (Bor SizeTest)) (test : Bor SizeTest) (c : Held_known) (r : Result Held_known Refusal) → length ss ≡ 1 → o ≡ Some test → ((Z : Option Sizing) → Told_by T.sizes Z → maybe_test o ≡ test_at Z sc lo) → Tested_to (test_of test.now) at (known_of (get_or ss 0 c)) n before after next r → Coerced_at T sc lo at (map known_of ss) n before after next r
+    coerced_test o test c r i q e h t = answered_as (λ bs s m x told j. by_step told j bs (known_of s) m x) (λ never. absurd never) h
+      where
+        by_step : (told : Told) → Tell T told → (bs : Bindings) (s : Known) (m : ℕ) → Is_tested (test_of test.now) at (known_of (get_or ss 0 c)) n bs s m → rules.Operates (literal_row told.sizes sc lo) (test_at told.sizes sc lo) (told.integer_at lo) (Coerce t) at (map known_of ss) n bs s m
+        by_step told j _ _ _ is_tested = subst (λ z. rules.Operates (literal_row told.sizes sc lo) (test_at told.sizes sc lo) (told.integer_at lo) (Coerce t) at z n (step [] (plain.Coerce at (test_of test.now) (known_row (known_of (get_or ss 0 c))))) (known_of (get_or ss 0 c)) n) (sym (one_is ss c i))
+            (subst (λ z. rules.Operates (literal_row told.sizes sc lo) z (told.integer_at lo) (Coerce t) at (known_of (get_or ss 0 c) ∷ []) n (step [] (plain.Coerce at (test_of test.now) (known_row (known_of (get_or ss 0 c))))) (known_of (get_or ss 0 c)) n) (sym (ap maybe_test q) ∙ e told.sizes j.sizes) o_coerce)
+
+  pub coerced_same : (ss : List Held_known) (o : Option (Bor SizeTest)) (c : Held_known) → length ss ≡ 1 → o ≡ None → ((Z : Option Sizing) → Told_by T.sizes Z → maybe_test o ≡ test_at Z sc lo) → Coerced_at T sc lo at (map known_of ss) n before before n (Ok (get_or ss 0 c))
+  coerced_same ss o c i q e t = answered [] (sym (append-nil before)) (λ told j. subst (λ z. rules.Operates (literal_row told.sizes sc lo) (test_at told.sizes sc lo) (told.integer_at lo) (Coerce t) at z n [] (known_of (get_or ss 0 c)) n) (sym (one_is ss c i))
+      (subst (λ z. rules.Operates (literal_row told.sizes sc lo) z (told.integer_at lo) (Coerce t) at (known_of (get_or ss 0 c) ∷ []) n [] (known_of (get_or ss 0 c)) n) (sym (ap maybe_test q) ∙ e told.sizes j.sizes) o_coerce))
 
 -- ---- primitives
 
@@ -441,8 +477,8 @@ module _ (p : Primitive) (at : Place) (given : List Held_known) (s : Held_known)
   full ge = ap (λ z. nat_lt z (arity p)) as_many ∙ le-ltb _ _ (omega (arith, ge))
 
   pub primitive_waits : (row : Bor (List Held_known)) (before : Bindings) (w : Held_known) → row.now ≡ arguments → length arguments < arity p → w.form ≡ form.Primitive p at row → Applied_primitive p at (knowns (map known_of given)) (known_of s) n before before n (Ok (Applied.Known w))
-  primitive_waits row before w q lt i = primitive_applied [] (sym (append-nil before)) (λ integer_at tops.
-      subst (λ z. Applies integer_at tops (Primitive_known p at (knowns (map known_of given))) (known_of s) n [] z n)
+  primitive_waits row before w q lt i = primitive_applied [] (sym (append-nil before)) (λ told tops.
+      subst (λ z. rules.Applies told tops (Primitive_known p at (knowns (map known_of given))) (known_of s) n [] z n)
       (sym (known_primitive w p at row i ∙ ap (λ z. Primitive_known p at (knowns (map known_of z))) q ∙ ap (λ z. Primitive_known p at (knowns z)) all_are))
       (a_primitive_waits (waiting lt)))
 
@@ -450,10 +486,10 @@ module _ (p : Primitive) (at : Place) (given : List Held_known) (s : Held_known)
   primitive_is_ready row before q ge o = primitive_ready (ap (map known_of) q ∙ all_are) record { full = full ge; arrays = o } refl refl
 
   pub primitive_runs : (before after : Bindings) (next : ℕ) (w : Held_known) → (length arguments < arity p → ⊥) → is_of_scalars p ≡ true → Operated_primitive p at (map known_of arguments) n before after next (Ok w) → Applied_primitive p at (knowns (map known_of given)) (known_of s) n before after next (Ok (Applied.Known w))
-  primitive_runs before after next w ge o (answered bs q x) = primitive_applied bs q (λ integer_at tops. a_primitive (full ge) o (subst (λ z. Primitive_operates p at z n bs (known_of w) next) all_are x))
+  primitive_runs before after next w ge o (answered bs q x) = primitive_applied bs q (λ told tops. a_primitive (full ge) o (subst (λ z. Primitive_operates p at z n bs (known_of w) next) all_are x))
 
   pub primitive_lost : (before after between behind : Bindings) (next later : ℕ) (x : Refusal) → (length arguments < arity p → ⊥) → is_of_scalars p ≡ true → Operated_primitive p at (map known_of arguments) n before between later (Err x) → Applied_primitive p at (knowns (map known_of given)) (known_of s) n behind after next (Err x)
-  primitive_lost before after between behind next later x ge o (unanswered h) = primitive_refused (refused_as (λ lacks integer_at tops. no_primitive (full ge) o (subst (No_primitive p at) all_are lacks)) h)
+  primitive_lost before after between behind next later x ge o (unanswered h) = primitive_refused (refused_as (λ lacks told tops. no_primitive (full ge) o (subst (No_primitive p at) all_are lacks)) h)
 
 pub primitive_err : (p : Primitive) (at : Place) (ss : Knowns) (s : Known) (n next : ℕ) (before after : Bindings) (x : Refusal) → x ≡ Memory → Applied_primitive p at ss s n before after next (Err x)
 primitive_err p at ss s n next before after x e = primitive_refused (only_memory e)

@@ -1,6 +1,7 @@
 -- What is known of a use.
-use Rattle.std.proofs.Common.{◌≡◌, ℕ, List, [], map, Some, None, Ok, Err, refl, sym, ap, ◌∙◌, subst}
+use Rattle.std.proofs.Common.{◌≡◌, ℕ, suc, List, [], ◌∷◌, map, Option, Some, None, Ok, Err, refl, sym, ap, ◌∙◌, subst, append-nil, le_refl}
 use Rattle.std.specs.Borrow.{Bor}
+use Rattle.std.specs.Prelude.{Result}
 use Rattle.fut_scalar.specs.Integers.{width_of}
 use Rattle.fut_scalar.specs.declared.place.BindId.{BindId}
 use Rattle.fut_scalar.specs.declared.place.Place.{Place}
@@ -11,9 +12,17 @@ use Rattle.fut_scalar.specs.declared.scalar.ScalarType.{ScalarType}
 use Rattle.fut_flat.specs.declared.prim.Primitive.{Primitive}
 use Rattle.fut_flat.specs.declared.prim.Folding.TheVariants as folding
 use Rattle.fut_flat.specs.declared.prim.Primitive.TheVariants as prim
+use Rattle.fut_flat.specs.declared.prim.Ref.{Ref}
 use Rattle.fut_flat.specs.declared.prim.Ref.TheVariants as ref
 use Rattle.fut_flat.specs.Terms.{Use}
+use Rattle.fut_blocks.proofs.Layers.{action_of-Size}
+use Rattle.fut_blocks.specs.declared.block.Act.TheVariants as act
 use Rattle.fut_blocks.specs.declared.block.Atom.TheVariants as atom
+use Rattle.fut_blocks.specs.declared.row.Extent.{Extent as Held_extent}
+use Rattle.fut_blocks.specs.Plain.{action_of}
+use Rattle.fut_meaning.specs.Found.{Sizing, Told}
+use Rattle.told_rows.specs.Calls.{maybe_extent}
+use Rattle.told_rows.specs.Tables.{Told_by}
 use Rattle.fut_blocks.specs.Meaning.{look, fitted}
 use Rattle.fut_meaning.specs.Knowns.{or_else}
 use Rattle.fut_meaning.specs.Operators.{lowest, highest}
@@ -21,35 +30,57 @@ use Rattle.unfold.proofs.Mirror.{known_primitive}
 use Rattle.unfold.specs.Held.{known_of}
 use Rattle.unfold.specs.Knowns.{Known, Scalar_known, Primitive_known, knowns, Scope, Tops, local, find}
 use Rattle.unfold.specs.Stuck.{no_such_name, type_name}
-use Rattle.unfold_parts.specs.Unsized.{Unfolds}
-use Rattle.unfold.specs.Unfolding.{u_name, u_primitive, u_constant, constant_of}
+use Rattle.unfold.specs.Telling.{size_used}
+use Rattle.unfold.specs.Unfolding as rules
+use Rattle.unfold.specs.Unfolding.{Bindings, step, named, u_name, u_size, u_primitive, u_constant, constant_of}
 use Rattle.unfold.specs.declared.known.Known.{Known as Held_known}
 use Rattle.unfold.specs.declared.known.KnownForm.TheVariants as form
-use Rattle.unfold_parts.specs.Answers.{Used, used, not_used, Primitive_used}
+use Rattle.unfold_parts.specs.Answers.{Answered, answered, unanswered, Is_step, is_step, Name_known, name_known, name_unknown, Used_to, Primitive_used}
 use Rattle.unfold_parts.specs.Refused.{lost}
+use Rattle.unfold_parts.specs.Told.{Held_sizes}
+use Rattle.unfold_parts.proofs.Refusing.{refused_as, answered_as}
+use Rattle.unfold_parts.specs.declared.refusal.Refusal.{Refusal}
 use Rattle.unfold_parts.specs.declared.refusal.Refusal.TheVariants.{Lost}
 
 found : (tops : Tops) (sc : Scope) (k : ℕ) → find tops sc k ≡ or_else (local sc k) (look tops k)
 unfolding find
 found tops sc k = refl
 
-module _ (tops : Tops) (sc : Scope) (b : BindId) (at : Place) (s : Held_known) where
-  pub used_local : Some (known_of s) ≡ local sc b.0 → Used tops sc (ref.Bound b) at (Ok s)
-  used_local e = used (λ integer_at lo k n. u_name refl (found tops sc b.0 ∙ ap (λ z. or_else z (look tops b.0)) (sym e)))
+module _ (tops : Tops) (sc : Scope) (k : ℕ) where
+  pub known_local : (s : Held_known) → Some (known_of s) ≡ local sc k → Name_known tops sc k (Ok s)
+  known_local s e = name_known (found tops sc k ∙ ap (λ z. or_else z (look tops k)) (sym e))
 
-  pub used_top : None ≡ local sc b.0 → Some (known_of s) ≡ look tops b.0 → Used tops sc (ref.Bound b) at (Ok s)
-  used_top e q = used (λ integer_at lo k n. u_name refl (found tops sc b.0 ∙ ap (λ z. or_else z (look tops b.0)) (sym e) ∙ sym q))
+  pub known_top : (s : Held_known) → None ≡ local sc k → Some (known_of s) ≡ look tops k → Name_known tops sc k (Ok s)
+  known_top s e q = name_known (found tops sc k ∙ ap (λ z. or_else z (look tops k)) (sym e) ∙ sym q)
 
-  pub used_primitive : (p : Primitive) → Primitive_used p at (known_of s) → Used tops sc (ref.Prim p) at (Ok s)
-  used_primitive p h = used (λ integer_at lo k n. h integer_at tops sc lo k n)
-
-module _ (tops : Tops) (sc : Scope) (at : Place) where
   -- a name that is neither local nor defined
-  pub used_none : (b : BindId) → None ≡ local sc b.0 → None ≡ look tops b.0 → Used tops sc (ref.Bound b) at (Err Lost)
-  used_none b e q = not_used (lost (λ integer_at lo k. no_such_name refl (found tops sc b.0 ∙ ap (λ z. or_else z (look tops b.0)) (sym e) ∙ sym q)))
+  pub known_nowhere : None ≡ local sc k → None ≡ look tops k → Name_known tops sc k (Err Lost)
+  known_nowhere e q = name_unknown (lost (found tops sc k ∙ ap (λ z. or_else z (look tops k)) (sym e) ∙ sym q))
 
-  pub used_type : (t : ScalarType) → Used tops sc (ref.Scalar t) at (Err Lost)
-  used_type t = not_used (lost (λ integer_at lo k. type_name))
+pub ruleset known_names = (known_local, known_top, known_nowhere)
+
+module _ (S : Held_sizes) (tops : Tops) (sc : Scope) (at : Place) (n : ℕ) (before : Bindings) where
+  module _ (b : BindId) where
+    -- what a size is worth, by a step
+    pub used_size : (o : Option Held_extent) (worth : Held_extent) (next : ℕ) (after : Bindings) (r : Result Held_known Refusal) → o ≡ Some worth → ((Z : Option Sizing) → Told_by S Z → maybe_extent o ≡ size_used Z sc b.0) → Answered (λ bs (s : Held_known) m. Is_step (action_of (act.Size worth)) n bs (known_of s) m) ⊥ before after next r → Used_to S tops sc (ref.Bound b) at n before after next r
+    used_size o worth next after r e h x = answered_as (λ bs s m i told t lo k. by_step told t lo k bs (known_of s) m i) (λ never. absurd never) x
+      where
+        by_step : (told : Told) → Told_by S told.sizes → (lo k : ℕ) (bs : Bindings) (s : Known) (m : ℕ) → Is_step (action_of (act.Size worth)) n bs s m → rules.Unfolds told tops sc lo (Use (ref.Bound b) at k) n bs s m
+        by_step told t lo k _ _ _ is_step = subst (λ z. rules.Unfolds told tops sc lo (Use (ref.Bound b) at k) n (step (n ∷ []) z) (named n) (suc n)) (sym (action_of-Size worth)) (u_size (sym (h told.sizes t) ∙ ap maybe_extent e) (le_refl n))
+
+    pub used_name : (o : Option Held_extent) (r : Result Held_known Refusal) → o ≡ None → ((Z : Option Sizing) → Told_by S Z → maybe_extent o ≡ size_used Z sc b.0) → Name_known tops sc b.0 r → Used_to S tops sc (ref.Bound b) at n before before n r
+    used_name o (Ok s) i h (name_known e) = answered [] (sym (append-nil before)) (λ told t lo k. u_name (sym (h told.sizes t) ∙ ap maybe_extent i) e)
+    used_name o (Err x) i h (name_unknown e) = unanswered (refused_as (λ q told t lo k. no_such_name (sym (h told.sizes t) ∙ ap maybe_extent i) q) e)
+
+  module _ (name : Ref) where
+    pub used_as : (other : Ref) (next : ℕ) (after : Bindings) (r : Result Held_known Refusal) → name ≡ other → Used_to S tops sc other at n before after next r → Used_to S tops sc name at n before after next r
+    used_as other next after r e h = subst (λ z. Used_to S tops sc z at n before after next r) (sym e) h
+
+    pub used_primitive : (p : Primitive) (s : Held_known) → name ≡ ref.Prim p → Primitive_used p at (known_of s) → Used_to S tops sc name at n before before n (Ok s)
+    used_primitive p s e h = used_as (ref.Prim p) n before (Ok s) e (answered [] (sym (append-nil before)) (λ told t lo k. h told tops sc lo k n))
+
+    pub used_type : (t : ScalarType) → name ≡ ref.Scalar t → Used_to S tops sc name at n before before n (Err Lost)
+    used_type t e = used_as (ref.Scalar t) n before (Err Lost) e (unanswered (lost (λ told i lo k. type_name)))
 
 -- ---- primitives
 
@@ -85,13 +116,13 @@ fitted_width U64 = refl
 
 module _ (at : Place) (s : Known) (t : IntType) (n : ℕ) where
   pub used_lowest : n ≡ lowest t → s ≡ Scalar_known (atom.Constant (scalar.Int t n)) → Primitive_used (prim.Lowest t) at s
-  used_lowest e q integer_at tops sc lo k m = subst (λ z. Unfolds integer_at tops sc lo (Use (ref.Prim (prim.Lowest t)) at k) m [] z m) (sym (q ∙ ap (λ z. Scalar_known (atom.Constant (scalar.Int t z))) e)) (u_constant (ap Some (sym (fitted_lowest t))))
+  used_lowest e q told tops sc lo k m = subst (λ z. rules.Unfolds told tops sc lo (Use (ref.Prim (prim.Lowest t)) at k) m [] z m) (sym (q ∙ ap (λ z. Scalar_known (atom.Constant (scalar.Int t z))) e)) (u_constant (ap Some (sym (fitted_lowest t))))
 
   pub used_highest : n ≡ highest t → s ≡ Scalar_known (atom.Constant (scalar.Int t n)) → Primitive_used (prim.Highest t) at s
-  used_highest e q integer_at tops sc lo k m = subst (λ z. Unfolds integer_at tops sc lo (Use (ref.Prim (prim.Highest t)) at k) m [] z m) (sym (q ∙ ap (λ z. Scalar_known (atom.Constant (scalar.Int t z))) e)) (u_constant (ap Some (sym (fitted_highest t))))
+  used_highest e q told tops sc lo k m = subst (λ z. rules.Unfolds told tops sc lo (Use (ref.Prim (prim.Highest t)) at k) m [] z m) (sym (q ∙ ap (λ z. Scalar_known (atom.Constant (scalar.Int t z))) e)) (u_constant (ap Some (sym (fitted_highest t))))
 
   pub used_width : n ≡ width_of t → s ≡ Scalar_known (atom.Constant (scalar.Int I32 n)) → Primitive_used (prim.NumBits t) at s
-  used_width e q integer_at tops sc lo k m = subst (λ z. Unfolds integer_at tops sc lo (Use (ref.Prim (prim.NumBits t)) at k) m [] z m) (sym (q ∙ ap (λ z. Scalar_known (atom.Constant (scalar.Int I32 z))) e)) (u_constant (ap Some (sym (fitted_width t))))
+  used_width e q told tops sc lo k m = subst (λ z. rules.Unfolds told tops sc lo (Use (ref.Prim (prim.NumBits t)) at k) m [] z m) (sym (q ∙ ap (λ z. Scalar_known (atom.Constant (scalar.Int I32 z))) e)) (u_constant (ap Some (sym (fitted_width t))))
 
 -- all but the numbers of a type are functions
 pub no_constant : (p : Primitive) → ((t : IntType) → p ≡ prim.Lowest t → ⊥) → ((t : IntType) → p ≡ prim.Highest t → ⊥) → ((t : IntType) → p ≡ prim.NumBits t → ⊥) → constant_of p ≡ None
@@ -144,8 +175,6 @@ no_constant (prim.Fold folding.Minimum t) l h b = refl
 no_constant (prim.Fold folding.Maximum t) l h b = refl
 
 pub used_function : (p : Primitive) (at : Place) (s : Held_known) (none : Bor (List Held_known)) → ((t : IntType) → p ≡ prim.Lowest t → ⊥) → ((t : IntType) → p ≡ prim.Highest t → ⊥) → ((t : IntType) → p ≡ prim.NumBits t → ⊥) → none.now ≡ [] → s.form ≡ form.Primitive p at none → Primitive_used p at (known_of s)
-used_function p at s none l h b e i integer_at tops sc lo k m = subst (λ z. Unfolds integer_at tops sc lo (Use (ref.Prim p) at k) m [] z m) (sym (known_primitive s p at none i ∙ ap (λ z. Primitive_known p at (knowns (map known_of z))) e)) (u_primitive (no_constant p l h b))
-
-pub ruleset using_names = (used_local, used_top, used_primitive, used_none, used_type)
+used_function p at s none l h b e i told tops sc lo k m = subst (λ z. rules.Unfolds told tops sc lo (Use (ref.Prim p) at k) m [] z m) (sym (known_primitive s p at none i ∙ ap (λ z. Primitive_known p at (knowns (map known_of z))) e)) (u_primitive (no_constant p l h b))
 
 pub ruleset primitives_used = (used_lowest, used_highest, used_width, used_function)

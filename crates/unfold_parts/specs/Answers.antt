@@ -1,5 +1,5 @@
 -- What the calls of unfolding answer. Where one is lost there is no way on; want of memory says nothing.
-use Rattle.std.specs.Prelude.{◌≡◌, ℕ, suc, ◌++◌, List, [], ◌∷◌, map, length, nat_lt, Bool, true, false, Result, Ok, Err, Option, Some, None}
+use Rattle.std.specs.Prelude.{◌≡◌, ℕ, suc, ◌+◌, ◌++◌, List, [], ◌∷◌, map, length, nat_lt, Bool, true, false, Result, Ok, Err, Option, Some, None}
 use Rattle.std.specs.Str.{bytes_eq}
 use Rattle.std.specs.Borrow.{Bor}
 use Rattle.fut_scalar.specs.declared.operator.BinOp.{BinOp}
@@ -12,22 +12,33 @@ use Rattle.fut_ast.specs.Sorts.{Text}
 use Rattle.fut_flat.specs.declared.prim.Primitive.{Primitive}
 use Rattle.fut_flat.specs.declared.prim.Ref.{Ref}
 use Rattle.fut_flat.specs.declared.prim.Ref.TheVariants as ref
-use Rattle.fut_flat.specs.Erased.{FlatPattern, pattern_of, patterns}
-use Rattle.fut_flat.specs.Terms.{Patterns, Record_pattern, Operation, Use}
+use Rattle.fut_flat.specs.Erased.{FlatPattern, FlatType, pattern_of, patterns}
+use Rattle.fut_flat.specs.Terms.{Patterns, Record_pattern, Operation, Coerce, Use}
 use Rattle.fut_meaning.specs.Operations.{arity, is_of_scalars}
 use Rattle.fut_blocks.specs.declared.block.Atom.{Atom}
 use Rattle.fut_blocks.specs.declared.block.Atom.TheVariants as atom
 use Rattle.fut_blocks.specs.declared.block.Block.{Block}
 use Rattle.fut_blocks.specs.declared.block.Operation.TheVariants as operation
 use Rattle.fut_blocks.specs.Numbered.{Upward}
+use Rattle.fut_blocks.specs.Rows.{Size_test}
+use Rattle.fut_blocks.specs.Plain as plain
 use Rattle.fut_blocks.specs.Plain.{Action, Operate, Read, Fields_at, Replace_at, lets, body_of}
 use Rattle.unfold.specs.Held.{known_of, scope_of, fields_known}
-use Rattle.unfold.specs.Knowns.{Known, Scalar_known, Tuple_known, Record_known, Primitive_known, Knowns, Known_fields, Scope, Tops, listed, knowns}
+use Rattle.fut_flat.specs.Numbers.{pattern_numbers, all_pattern_numbers}
+use Rattle.unfold.specs.Knowns.{Known, Scalar_known, Tuple_known, Record_known, Primitive_known, Knowns, Known_fields, Scope, Tops, find, listed, knowns, name_and}
+use Rattle.unfold.specs.Telling.{enter, known_row}
 use Rattle.unfold.specs.Stuck.{Not_bound, No_operation, No_primitive}
 use Rattle.unfold.specs.Unfolding.{Bindings, step, named, both_hold, Equals, All_equal, Packs, Packs_all, field_knowns, Primitive_operates}
 use Rattle.unfold.specs.declared.known.Known.{Known as Held_known}
 use Rattle.unfold.specs.declared.known.Scope.{Scope as Held_scope}
-use Rattle.unfold_parts.specs.Unsized.{Binds, All_bind, Operates, Unfolds, Applies, Stuck, Stuck_run}
+use Rattle.fut_meaning.specs.Found.{Sizing, Told}
+use Rattle.told_rows.specs.Tables.{Told_by}
+use Rattle.unfold.specs.Unfolding as rules
+use Rattle.unfold.specs.Stuck as lacking
+use Rattle.unfold_parts.specs.Told.{Held_sizes, Enters, Binds, All_bind, Operates, Operates_at}
+use Rattle.unfold_parts.specs.Tables.{integer_at}
+use Rattle.unfold_parts.specs.declared.patterns.Bound.{Bound}
+use Rattle.unfold_parts.specs.declared.told.Told.{Told as Held_told}
 use Rattle.unfold_parts.specs.Refused.{Refused, Not_all_bound, Not_packed, Not_all_packed, Not_compared, Not_both_compared, Not_all_compared}
 use Rattle.unfold_parts.specs.declared.equality.Pair.{Pair}
 use Rattle.unfold_parts.specs.declared.new_names.Named.{Named}
@@ -43,23 +54,64 @@ pub data Answered {A : Type 0} (Gives : Bindings → A → ℕ → Type 0) (Lack
 
 -- ---- names and patterns
 
-pub data Used (tops : Tops) (sc : Scope) (name : Ref) (at : Place) : Result Held_known Refusal → Type 0 where
-  used : {s : Held_known} → ((integer_at : ℕ → IntType) (lo k n : ℕ) → Unfolds integer_at tops sc lo (Use name at k) n [] (known_of s) n) → Used tops sc name at (Ok s)
-  not_used : {r : Refusal} → Refused ((integer_at : ℕ → IntType) (lo k : ℕ) → Stuck integer_at tops sc lo (Use name at k)) r → Used tops sc name at (Err r)
+-- a name that is no size's: what is known of it, where something is
+pub data Name_known (tops : Tops) (sc : Scope) (k : ℕ) : Result Held_known Refusal → Type 0 where
+  name_known : {s : Held_known} → find tops sc k ≡ Some (known_of s) → Name_known tops sc k (Ok s)
+  name_unknown : {r : Refusal} → Refused (find tops sc k ≡ None) r → Name_known tops sc k (Err r)
+
+-- a use, whichever node it has
+abbrev pub Uses : Held_sizes → Tops → Scope → Ref → Place → ℕ → Bindings → Known → ℕ → Type 0
+Uses S tops sc name at n bs s m = (told : Told) → Told_by S told.sizes → (lo k : ℕ) → rules.Unfolds told tops sc lo (Use name at k) n bs s m
+
+abbrev pub No_use : Held_sizes → Tops → Scope → Ref → Place → Type 0
+No_use S tops sc name at = (told : Told) → Told_by S told.sizes → (lo k : ℕ) → lacking.Stuck told tops sc lo (Use name at k)
+
+abbrev pub Used_to : Held_sizes → Tops → Scope → Ref → Place → ℕ → Bindings → Bindings → ℕ → Result Held_known Refusal → Type 0
+Used_to S tops sc name at n = Answered (λ bs s next. Uses S tops sc name at n bs (known_of s) next) (No_use S tops sc name at)
 
 abbrev pub Primitive_used : Primitive → Place → Known → Type 0
-Primitive_used p at s = (integer_at : ℕ → IntType) (tops : Tops) (sc : Scope) (lo k n : ℕ) → Unfolds integer_at tops sc lo (Use (ref.Prim p) at k) n [] s n
+Primitive_used p at s = (told : Told) (tops : Tops) (sc : Scope) (lo k n : ℕ) → rules.Unfolds told tops sc lo (Use (ref.Prim p) at k) n [] s n
 
-abbrev pub Bound_to : FlatPattern → Known → Scope → ℕ → Bindings → Bindings → ℕ → Result Held_scope Refusal → Type 0
-Bound_to p s sc n = Answered (λ bs inner next. Binds p s sc n bs (scope_of inner) next) (Not_bound p s)
+abbrev pub Bound_to : Held_sizes → ℕ → FlatPattern → Known → Scope → ℕ → Bindings → Bindings → ℕ → Result Held_scope Refusal → Type 0
+Bound_to S q p s sc n = Answered (λ bs inner next. Binds S q p s sc n bs (scope_of inner) next) (Not_bound p s)
 
-abbrev pub All_bound_to : Patterns Ref BindId → List Known → Scope → ℕ → Bindings → Bindings → ℕ → Result Held_scope Refusal → Type 0
-All_bound_to ps ss sc n = Answered (λ bs inner next. All_bind ps ss sc n bs (scope_of inner) next) (Not_all_bound ps ss)
+-- the same, and the number of the node behind the pattern
+pub record Is_bound (S : Held_sizes) (b : Bound) (p : FlatPattern) (s : Known) (n : ℕ) (bs : Bindings) (c : Bound) (next : ℕ) : Type 0 where
+  pub binds : Binds S b.at p s (scope_of b.scope) n bs (scope_of c.scope) next
+  pub behind : c.at ≡ b.at + pattern_numbers p
+
+abbrev pub Bound_from : Held_sizes → Bound → FlatPattern → Known → ℕ → Bindings → Bindings → ℕ → Result Bound Refusal → Type 0
+Bound_from S b p s n = Answered (Is_bound S b p s n) (Not_bound p s)
+
+pub record All_are_bound (S : Held_sizes) (b : Bound) (ps : Patterns Ref BindId) (ss : List Known) (n : ℕ) (bs : Bindings) (c : Bound) (next : ℕ) : Type 0 where
+  pub binds : All_bind S b.at ps ss (scope_of b.scope) n bs (scope_of c.scope) next
+  pub behind : c.at ≡ b.at + all_pattern_numbers ps
+
+abbrev pub All_bound_from : Held_sizes → Bound → Patterns Ref BindId → List Known → ℕ → Bindings → Bindings → ℕ → Result Bound Refusal → Type 0
+All_bound_from S b ps ss n = Answered (All_are_bound S b ps ss n) (Not_all_bound ps ss)
+
+-- inside a pattern that is entered with what is known
+pub record Are_bound_inside (S : Held_sizes) (b : Bound) (s : Known) (ps : Patterns Ref BindId) (ss : List Known) (n : ℕ) (bs : Bindings) (c : Bound) (next : ℕ) : Type 0 where
+  pub binds : (Z : Option Sizing) → Told_by S Z → rules.All_bind Z (1 + b.at) ps ss (enter Z b.at s (scope_of b.scope)) n bs (scope_of c.scope) next
+  pub behind : c.at ≡ b.at + (1 + all_pattern_numbers ps)
+
+abbrev pub Bound_inside : Held_sizes → Bound → Known → Patterns Ref BindId → List Known → ℕ → Bindings → Bindings → ℕ → Result Bound Refusal → Type 0
+Bound_inside S b s ps ss n = Answered (Are_bound_inside S b s ps ss n) (Not_all_bound ps ss)
+
+-- a pattern at the next node is entered, and its name is bound
+pub record Is_entered (S : Held_sizes) (b : Bound) (s : Known) (c : Bound) : Type 0 where
+  pub enters : Enters S b.at s (scope_of b.scope) (scope_of c.scope)
+  pub behind : c.at ≡ b.at + 1
+
+pub record Is_named (S : Held_sizes) (b : Bound) (k : BindId) (s : Known) (c : Bound) : Type 0 where
+  pub names : (Z : Option Sizing) → Told_by S Z → scope_of c.scope ≡ name_and k s (enter Z b.at s (scope_of b.scope))
+  pub behind : c.at ≡ b.at + 1
 
 -- The parts of a value by which a pattern is bound to it: the value is bound by the steps that give them and those by which the
 -- patterns of parts are bound to them, and where these lack, so does it.
 pub record Parts_given (p : FlatPattern) (ps : Patterns Ref BindId) (s : Known) (n : ℕ) (bs : Bindings) (ss : List Known) (next : ℕ) : Type 0 where
-  pub binds : (sc inner : Scope) (cs : Bindings) (m : ℕ) → All_bind ps ss sc next cs inner m → Binds p s sc n (bs ++ cs) inner m
+  pub binds : (Z : Option Sizing) (q : ℕ) (sc inner : Scope) (cs : Bindings) (m : ℕ) → rules.All_bind Z (1 + q) ps ss (enter Z q s sc) next cs inner m → rules.Binds Z q p s sc n (bs ++ cs) inner m
+  pub numbers : pattern_numbers p ≡ 1 + all_pattern_numbers ps
   pub lacks : Not_all_bound ps ss → Not_bound p s
 
 abbrev pub Given_to : FlatPattern → Patterns Ref BindId → Known → ℕ → Bindings → Bindings → ℕ → Result (Bor (List Held_known)) Refusal → Type 0
@@ -166,6 +218,21 @@ pub data At_once (o : Operation Ref BindId) (ss : List Known) : Result Held_know
 abbrev pub Operated : IntType → Operation Ref BindId → Place → List Known → ℕ → Bindings → Bindings → ℕ → Result Held_known Refusal → Type 0
 Operated t o at ss n = Answered (λ bs s next. Operates t o at ss n bs (known_of s) next) (No_operation t o at ss)
 
+-- under the names of a scope, at a node
+abbrev pub Operated_at : Held_told → Scope → ℕ → Operation Ref BindId → Place → List Known → ℕ → Bindings → Bindings → ℕ → Result Held_known Refusal → Type 0
+Operated_at T sc lo o at ss n = Answered (λ bs s next. Operates_at T sc lo o at ss n bs (known_of s) next) (No_operation (integer_at T.types.now lo) o at ss)
+
+-- data that has to have the sizes of a written type, whichever
+abbrev pub Coerced_at : Held_told → Scope → ℕ → Place → List Known → ℕ → Bindings → Bindings → ℕ → Result Held_known Refusal → Type 0
+Coerced_at T sc lo at ss n before after next r = (t : FlatType) → Operated_at T sc lo (Coerce t) at ss n before after next r
+
+-- data that has to have sizes, by a step without names
+pub data Is_tested (test : Size_test) (at : Place) (s : Known) (n : ℕ) : Bindings → Known → ℕ → Type 0 where
+  is_tested : Is_tested test at s n (step [] (plain.Coerce at test (known_row s))) s n
+
+abbrev pub Tested_to : Size_test → Place → Known → ℕ → Bindings → Bindings → ℕ → Result Held_known Refusal → Type 0
+Tested_to test at s n = Answered (λ bs t next. Is_tested test at s n bs (known_of t) next) ⊥
+
 abbrev pub Operated_primitive : Primitive → Place → List Known → ℕ → Bindings → Bindings → ℕ → Result Held_known Refusal → Type 0
 Operated_primitive p at ss n = Answered (λ bs s next. Primitive_operates p at ss n bs (known_of s) next) (No_primitive p at ss)
 
@@ -175,9 +242,9 @@ pub record Is_ready (p : Primitive) (ss : List Known) : Type 0 where
   pub arrays : is_of_scalars p ≡ false
 
 pub data Applied_primitive (p : Primitive) (at : Place) (ss : Knowns) (s : Known) (n : ℕ) (before after : Bindings) (next : ℕ) : Result Applied Refusal → Type 0 where
-  primitive_applied : {s' : Held_known} (bs : Bindings) → after ≡ before ++ bs → ((integer_at : ℕ → IntType) (tops : Tops) → Applies integer_at tops (Primitive_known p at ss) s n bs (known_of s') next) → Applied_primitive p at ss s n before after next (Ok (Applied.Known s'))
+  primitive_applied : {s' : Held_known} (bs : Bindings) → after ≡ before ++ bs → ((told : Told) (tops : Tops) → rules.Applies told tops (Primitive_known p at ss) s n bs (known_of s') next) → Applied_primitive p at ss s n before after next (Ok (Applied.Known s'))
   primitive_ready : {given : Bor (List Held_known)} → map known_of given.now ≡ listed ss ++ s ∷ [] → Is_ready p (listed ss ++ s ∷ []) → after ≡ before → next ≡ n → Applied_primitive p at ss s n before after next (Ok (Applied.Ready given))
-  primitive_refused : {r : Refusal} → Refused ((integer_at : ℕ → IntType) (tops : Tops) → Stuck_run integer_at tops (Primitive_known p at ss) s) r → Applied_primitive p at ss s n before after next (Err r)
+  primitive_refused : {r : Refusal} → Refused ((told : Told) (tops : Tops) → lacking.Stuck_run told tops (Primitive_known p at ss) s) r → Applied_primitive p at ss s n before after next (Err r)
 
 -- ---- equality
 

@@ -2,6 +2,7 @@ pub mod Held
 pub mod Patterns
 pub mod States
 pub mod Tables
+pub mod Told
 pub mod Unsized
 pub mod Refused
 pub mod Layouts

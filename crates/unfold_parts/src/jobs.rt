@@ -13,14 +13,12 @@ use crate::stepped::made;
 use crate::steps::Unfolding;
 use bumpalo::Bump;
 use bumpalo::collections::into_bump_slice;
-use fut_blocks::{Act, Atom, RowShape};
+use fut_blocks::{Act, Atom};
 use fut_flat::Primitive;
 use fut_primitives::line_of;
 use fut_scalar::Place;
+use told_rows::{Sizes, row_of_function};
 use unfold::{Known, KnownForm};
-
-// Nothing is told of rows.
-static UNKNOWN: RowShape<'static> = RowShape::Unknown;
 
 /// A primitive on arrays with its data as components, its function, and new names for the arguments of the function.
 #[derive(Clone, Copy)]
@@ -115,9 +113,10 @@ pub fn begin_job<'a>(
 }
 
 /// The steps from the mark on are the body of the primitive's function, which gives what is known of the result. The mark is
-/// no more than there are steps.
+/// no more than there are steps. The shape of what the function gives stands for it where there is none.
 pub fn end_job<'a>(
     work: &mut Unfolding<'a>,
+    sizes: Option<&'a Sizes<'a>>,
     mark: usize,
     primitive: Primitive,
     place: Place,
@@ -125,7 +124,7 @@ pub fn end_job<'a>(
     given: &Known<'a>,
 ) -> Result<Known<'a>, Refusal>
     requires mark { mark ≤ length (steps_of work.old) }
-    ensures { Ended_to mark primitive place job.now.atoms.now job.now.params.now (known_of given.now) work.old.next (steps_of work.old) (steps_of work.new) work.new.next result }
+    ensures { Ended_to sizes.entry mark primitive place (known_of job.now.function) job.now.atoms.now job.now.params.now (known_of given.now) work.old.next (steps_of work.old) (steps_of work.new) work.new.next result }
 {
     let atom = match pack(work, given) {
         Ok(atom) => atom,
@@ -135,13 +134,17 @@ pub fn end_job<'a>(
         Ok(results) => results,
         Err(_) => return Err(Refusal::Memory),
     };
+    let row = match row_of_function(sizes, primitive, &job.function, job.atoms, work.bump) {
+        Ok(row) => row,
+        Err(_) => return Err(Refusal::Memory),
+    };
     match work.block(mark, results) {
         Ok(body) => made(
             work,
             Act::Primitive {
                 primitive,
                 place,
-                row: &UNKNOWN,
+                row,
                 data: job.atoms,
                 params: job.params,
                 body,

@@ -2,11 +2,11 @@
 ghost use Rattle.std.specs.Prelude.{◌≡◌, ◌∷◌, [], map};
 ghost use Rattle.fut_blocks.specs.Plain.{Part_at, Read, making_form};
 ghost use Rattle.fut_flat.specs.Erased.{operation_of};
-ghost use Rattle.fut_flat.specs.Terms.{Assert, Binary, Project, Replace};
+ghost use Rattle.fut_flat.specs.Terms.{Array_of, Assert, Binary, Project, Replace};
 ghost use Rattle.fut_scalar.specs.declared.scalar.IntType.{IntType as Integer_type};
-ghost use Rattle.unfold.specs.Held.{known_of};
+ghost use Rattle.unfold.specs.Held.{known_of, scope_of};
 ghost use Rattle.unfold.specs.Unfolding.{literal_type};
-ghost use Rattle.unfold_parts.specs.Answers.{Answered, Both_equal_to, Changed_to, Is_step, Made_to, Operated};
+ghost use Rattle.unfold_parts.specs.Answers.{Answered, Both_equal_to, Changed_to, Coerced_at, Is_step, Made_to, Operated, Operated_at};
 ghost use Rattle.unfold_parts.specs.Parts.{Constant_to, One_to};
 ghost use Rattle.unfold_parts.specs.Tables.{integer_at};
 ghost use Rattle.unfold_parts.specs.States.{steps_of};
@@ -19,16 +19,16 @@ use crate::records::{record_of, replaced};
 use crate::refusal::Refusal;
 use crate::stepped::{binary, computed, made, unary};
 use crate::steps::Unfolding;
-use fut_blocks::{Act as StepAct, Atom, Making, Operation, RowShape, Step};
+use crate::tested::tested;
+use crate::told::Told;
+use fut_blocks::{Act as StepAct, Atom, Making, Operation, Step};
 use fut_flat::Act;
 use fut_scalar::{BinOp, IntType, Place, Scalar, UnOp};
-use unfold::{Known, KnownForm};
+use told_rows::{row_of_literal, test_at};
+use unfold::{Known, KnownForm, Scope};
 
-// Nothing is told of rows.
-static UNKNOWN: RowShape<'static> = RowShape::Unknown;
-
-/// The type of an integer without a suffix, by the number of its node.
-pub fn literal_type_at(types: &[IntType], number: u32) -> IntType
+// The type of an integer without a suffix, by the number of its node.
+fn literal_type_at(types: &[IntType], number: u32) -> IntType
     ensures { result ≡ integer_at types.now number }
 {
     let at = number as usize;
@@ -225,16 +225,57 @@ fn same<'a>(parts: &'a [Known<'a>]) -> Result<Known<'a>, Refusal>
     Ok(parts[0])
 }
 
-/// An operation on parts, where `ty` is the type of an integer without a suffix.
+// An array literal: the shape of its rows is told, which stands for those that are missing.
+fn literal<'a>(
+    work: &mut Unfolding<'a>,
+    told: Told<'a>,
+    scope: Scope<'a>,
+    at: u32,
+    mark: Place,
+    parts: &'a [Known<'a>],
+) -> Result<Known<'a>, Refusal>
+    ensures { Operated_at told.entry (scope_of scope.entry) at Array_of mark (map known_of parts.now) work.old.next (steps_of work.old) (steps_of work.new) work.new.next result }
+{
+    match row_of_literal(told.sizes, scope, at, work.bump) {
+        Ok(row) => make(work, Making::Array(row), mark, parts),
+        Err(_) => Err(Refusal::Memory),
+    }
+}
+
+// Data that has to have the sizes of a written type, where there is a sizing.
+fn coerced<'a>(
+    work: &mut Unfolding<'a>,
+    told: Told<'a>,
+    scope: Scope<'a>,
+    at: u32,
+    mark: Place,
+    parts: &'a [Known<'a>],
+) -> Result<Known<'a>, Refusal>
+    ensures { Coerced_at told.entry (scope_of scope.entry) at mark (map known_of parts.now) work.old.next (steps_of work.old) (steps_of work.new) work.new.next result }
+{
+    if parts.len() != 1 {
+        return Err(Refusal::Lost);
+    }
+    match test_at(told.sizes, scope, at, work.bump) {
+        Ok(Some(wanted)) => tested(work, wanted, mark, &parts[0]),
+        Ok(None) => Ok(parts[0]),
+        Err(_) => Err(Refusal::Memory),
+    }
+}
+
+/// An operation on parts, under the names of a scope, at the node of the number `at`.
 pub fn operate<'a>(
     work: &mut Unfolding<'a>,
-    ty: IntType,
+    told: Told<'a>,
+    scope: Scope<'a>,
+    at: u32,
     act: &Act<'a>,
     mark: Place,
     parts: &'a [Known<'a>],
 ) -> Result<Known<'a>, Refusal>
-    ensures { Operated ty (operation_of act.now) mark (map known_of parts.now) work.old.next (steps_of work.old) (steps_of work.new) work.new.next result }
+    ensures { Operated_at told.entry (scope_of scope.entry) at (operation_of act.now) mark (map known_of parts.now) work.old.next (steps_of work.old) (steps_of work.new) work.new.next result }
 {
+    let ty = literal_type_at(told.types, at);
     match *act {
         Act::Int { value, ty: suffix } => {
             let ty = literal_type(ty, suffix);
@@ -251,10 +292,10 @@ pub fn operate<'a>(
         Act::Project(name) => project(work, ty, name, mark, parts),
         Act::Replace(name) => replace(work, ty, name, mark, parts),
         Act::Ascribe(_) => same(parts),
-        Act::Coerce(_) => same(parts),
+        Act::Coerce(_) => coerced(work, told, scope, at, mark, parts),
         Act::Declared(_) => same(parts),
         Act::Assert => assert_first(work, ty, mark, parts),
-        Act::Array => make(work, Making::Array(&UNKNOWN), mark, parts),
+        Act::Array => literal(work, told, scope, at, mark, parts),
         Act::Index(asked) => make(work, Making::Index(asked), mark, parts),
         Act::Update => make(work, Making::Update, mark, parts),
         Act::Range { stepped, end } => make(work, Making::Range { stepped, end }, mark, parts),

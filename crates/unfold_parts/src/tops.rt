@@ -1,20 +1,16 @@
 // What is known of the definitions.
 ghost use Rattle.std.specs.Prelude.{◌≡◌, ◌∷◌, [], IfErr, IfOk};
 ghost use Rattle.fut_blocks.specs.Meaning.{look};
-ghost use Rattle.unfold.specs.Held.{known_of, scope_of};
-ghost use Rattle.unfold_parts.specs.Answers.{Used};
+ghost use Rattle.unfold.specs.Held.{known_of};
 ghost use Rattle.unfold_parts.specs.Held.{maybe_known};
 ghost use Rattle.unfold_parts.specs.Tables.{Kept, definitions_of, tops_of};
 ghost use Rattle.unfold_parts.specs.declared.refusal.Refusal.TheVariants as refusal;
 
-use crate::primitives::use_of_primitive;
 use crate::refusal::Refusal;
-use crate::scope::find;
 use bumpalo::Bump;
-use fut_flat::Ref;
-use fut_scalar::{BindId, Place};
+use fut_scalar::BindId;
 use std::slice;
-use unfold::{Known, Scope};
+use unfold::Known;
 
 /// Definitions with what is known of them, the last one first.
 #[derive(Clone, Copy)]
@@ -104,29 +100,5 @@ impl<'a> Tops<'a> {
         }
         table[at] = Some(known);
         Ok(Tops { bump, list, table })
-    }
-}
-
-/// What is known of a use, at its place: of a local name or a definition, or a primitive.
-#[tactic(auto, using(crate::proofs::Using::using_names))]
-pub fn known_use<'a>(
-    tops: &Tops<'a>,
-    scope: Scope<'a>,
-    reference: Ref,
-    place: Place,
-) -> Result<Known<'a>, Refusal>
-    requires kept { Kept tops.now }
-    ensures { Used (tops_of tops.now) (scope_of scope.entry) reference place result }
-{
-    match reference {
-        Ref::Bound(number) => match find(scope, number) {
-            Some(known) => Ok(*known),
-            None => match tops.of(number) {
-                Some(known) => Ok(known),
-                None => Err(Refusal::Lost),
-            },
-        },
-        Ref::Prim(primitive) => Ok(use_of_primitive(primitive, place)),
-        Ref::Scalar(_) => Err(Refusal::Lost),
     }
 }

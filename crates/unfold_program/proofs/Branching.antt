@@ -24,13 +24,13 @@ use Rattle.unfold_program.specs.declared.walked.Walked.{Walked}
 use Rattle.unfold_program.specs.declared.walked.WalkedScalar.{WalkedScalar}
 use Rattle.unfold_program.specs.Answers.{Unfolded, unfolded, refused, Becomes, stays, becomes_one, Closed_to, closed_to, other_form, not_closed, No_block, stuck_inside, gives_function, Blocked_to, blocked_to, block_differs, not_blocked, Stepped_to, stepped_to, not_stepped, is_component, Asked, asked_one, asked_same, Branches_stuck, Branches_to, branches_to, branches_differ, no_branches, Scalar_unfolded, scalar_unfolded, no_scalar_unfolded, Not_scalar, stuck_term, other_value, agreed, defined, told}
 use Rattle.unfold_program.proofs.Growing.{grown, moved, stuck_at, ending}
-use Rattle.unfold_parts.specs.Unsized.{Stuck, Unfolds}
+use Rattle.unfold_parts.specs.Told.{Stuck, Unfolds}
 
 module _ (c : Context) (sc : Scope) (lo : ℕ) (t : FlatTerm) where
   -- what is known may be made one component
   pub becomes : {n m k : ℕ} {bs cs : Bindings} {s s' : Known} → Unfolds (told c) (defined c) sc lo t n bs s m → Becomes s m cs s' k → Unfolds (told c) (defined c) sc lo t n (bs ++ cs) s' k
   becomes {n} {m} {bs = bs} {s = s} u stays = subst (λ z. Unfolds (told c) (defined c) sc lo t n z s m) (sym (append-nil bs)) u
-  becomes u (becomes_one p) = u_packed u p
+  becomes u (becomes_one p) = λ td tl. u_packed (u td tl) p
 
   -- a term behind the steps from a mark on, as a block
   pub closes : (mark : ℕ) (like : Known) (old mid new : Unfolding) (w : Walked) (r : Result (Option Branch) Refusal) → Unfolded c sc lo t old mid (Ok w) → Closed_to mark like w mid new r → Blocked_to c sc mark lo t like old new r
@@ -57,7 +57,7 @@ not_packs (asked_same e) n = e
 -- what is asked for is data, if the first branch gives some
 no_such : (c : Context) (sc : Scope) (truth : WalkedScalar) (ta tb : FlatTerm) (packs : Bool) (old m1 : Unfolding) (w : Walked) {like : Known} → Asked packs (known_of w.known) like → Unfolded c sc truth.at ta old m1 (Ok w) → No_data like → Branches_stuck c sc truth ta tb old
 no_such c sc truth ta tb packs old m1 w (asked_one {u = u} p) h lacks lo n es tc at v = absurd (lacks Scalar_shape (u ∷ []) laid_scalar)
-no_such c sc truth ta tb packs old m1 w (asked_same p) (unfolded bs g x h) lacks lo n es tc at v = then_function (moved c at x) lacks
+no_such c sc truth ta tb packs old m1 w (asked_same p) (unfolded bs g x h) lacks lo n es tc at v = λ td tl. then_function ((moved c at x) td tl) lacks
 
 pub closed_mark : (c : Context) (sc : Scope) (lo : ℕ) (t : FlatTerm) (old m1 : Unfolding) (mark : ℕ) (like : Known) (w : Walked) (m2 : Unfolding) (a : Branch) → mark ≡ length (steps_of old) → Unfolded c sc lo t old m1 (Ok w) → Closed_to mark like w m1 m2 (Ok (Some a)) → mark ≤ length (steps_of m2)
 closed_mark c sc lo t old m1 mark like w m2 a q (unfolded bs g u h) (closed_to cs us b l f n) = omega (arith, q, ap length ((f (steps_of old) bs (sym q) g).0))
@@ -66,11 +66,11 @@ closed_mark c sc lo t old m1 mark like w m2 a q (unfolded bs g u h) (closed_to c
 
 module _ (c : Context) (sc : Scope) (truth : WalkedScalar) (ta tb : FlatTerm) (packs : Bool) (old m1 : Unfolding) where
   pub then_err : (new : Unfolding) (r : Refusal) → Unfolded c sc truth.at ta old m1 (Err r) → Branches_to c sc truth ta tb packs old new (Err r)
-  then_err new r (refused x) = no_branches (refused_as (λ w lo n bs tc at v. stuck_then v (stuck_at c at w)) x)
+  then_err new r (refused x) = no_branches (refused_as (λ w lo n bs tc at v td tl. stuck_then (v td tl) ((stuck_at c at w) td tl)) x)
 
   module _ (mark : ℕ) (like : Known) (w : Walked) where
     pub then_unlaid : (m2 new : Unfolding) (r : Refusal) → Unfolded c sc truth.at ta old m1 (Ok w) → Closed_to mark like w m1 m2 (Err r) → Branches_to c sc truth ta tb packs old new (Err r)
-    then_unlaid m2 new r (unfolded bs g u h) (not_closed x) = no_branches (refused_as (λ lacks lo n es tc at v. then_function (moved c at u) lacks) x)
+    then_unlaid m2 new r (unfolded bs g u h) (not_closed x) = no_branches (refused_as (λ lacks lo n es tc at v td tl. then_function ((moved c at u) td tl) lacks) x)
 
     pub then_differs : (new : Unfolding) → Asked packs (known_of w.known) like → Unfolded c sc truth.at ta old m1 (Ok w) → Closed_to mark like w m1 new (Ok None) → Branches_to c sc truth ta tb packs old new (Ok None)
     then_differs new asked (unfolded bs g u h) (other_form none same) = branches_differ bs (not_packs asked none) (same ∙ g)
@@ -80,8 +80,8 @@ module _ (c : Context) (sc : Scope) (truth : WalkedScalar) (ta tb : FlatTerm) (p
       else_err m3 new r (unfolded bs g u h) (closed_to cs us b l f n) (not_blocked x) = no_branches (refused_as none x)
         where
           none : No_block c sc a.at tb → Branches_stuck c sc truth ta tb old
-          none (stuck_inside z) lo i es tc at v = stuck_else (moved c at u) (stuck_at c (omega (arith, n, h, at)) z)
-          none (gives_function u' lacks) lo i es tc at v = else_function (moved c (omega (arith, n, h, at)) u') lacks
+          none (stuck_inside z) lo i es tc at v td tl = stuck_else ((moved c at u) td tl) ((stuck_at c (omega (arith, n, h, at)) z) td tl)
+          none (gives_function u' lacks) lo i es tc at v td tl = else_function ((moved c (omega (arith, n, h, at)) u') td tl) lacks
 
       pub else_differs : (new : Unfolding) → Asked packs (known_of w.known) like → Unfolded c sc truth.at ta old m1 (Ok w) → Closed_to mark like w m1 m2 (Ok (Some a)) → Blocked_to c sc mark a.at tb like m2 new (Ok None) → Branches_to c sc truth ta tb packs old new (Ok None)
       else_differs new asked (unfolded bs g u h) (closed_to cs us b l f n) (block_differs ds none same) = branches_differ ds (not_packs asked none) (same ∙ ap (λ z. z ++ ds) ((f (steps_of old) bs (sym q) g).0))
@@ -94,7 +94,7 @@ module _ (c : Context) (sc : Scope) (truth : WalkedScalar) (ta tb : FlatTerm) (p
             branches_to (record {
               steps = step xs (act.If truth.atom (lets (bs ++ cs) us) (lets ds ws));
               grown = gs ∙ ap (λ z. z ++ step xs (act.If truth.atom (body_of a.block.now) (body_of e.block.now))) (second.0) ∙ ap (λ z. steps_of old ++ step xs z) (ap (λ z. act.If truth.atom z (body_of e.block.now)) (first.1) ∙ ap (λ z. act.If truth.atom (lets (bs ++ cs) us) z) (second.1));
-              unfolds = λ lo i es tc at v. u_if xs v (moved c at (becomes c sc truth.at ta u b)) l (moved c (omega (arith, n, h, at)) u') l' up lx;
+              unfolds = λ lo i es tc at v td tl. u_if xs (v td tl) ((moved c at (becomes c sc truth.at ta u b)) td tl) l ((moved c (omega (arith, n, h, at)) u') td tl) l' up lx;
               behind = omega (arith, n, h, h');
             })
         branches_end _ asked (unfolded bs g u h) (closed_to cs us b l f n) (blocked_to ds ws f' u' l' h') (not_stepped x) = no_branches (refused_as (no_such c sc truth ta tb packs old m1 w asked (unfolded bs g u h)) x)
@@ -117,8 +117,8 @@ module _ (c : Context) (sc : Scope) (lo : ℕ) (tc ta tb : FlatTerm) (first : �
   if_test_err new r (no_scalar_unfolded x) = refused (refused_as none x)
     where
       none : Not_scalar c sc first tc → Stuck (told c) (defined c) sc lo (If tc ta tb)
-      none (stuck_term w) = stuck_condition (stuck_at c (omega (arith, q)) w)
-      none (other_value u lacks) = no_condition (moved c (omega (arith, q)) u) lacks
+      none (stuck_term w) td tl = stuck_condition ((stuck_at c (omega (arith, q)) w) td tl)
+      none (other_value u lacks) td tl = no_condition ((moved c (omega (arith, q)) u) td tl) lacks
 
   module _ (truth : WalkedScalar) (packs : Bool) (new : Unfolding) where
     pub if_branched : (r : Walked) → Scalar_unfolded c sc first tc old m1 (Ok truth) → Branches_to c sc truth ta tb packs m1 new (Ok (Some r)) → Unfolded c sc lo (If tc ta tb) old new (Ok r)

@@ -1,5 +1,5 @@
 -- What a loop begins with, and the names of a turn.
-use Rattle.std.proofs.Common.{◌≡◌, ℕ, ◌++◌, List, Ok, Err, ap, ◌∙◌, subst, append_assoc}
+use Rattle.std.proofs.Common.{◌≡◌, ℕ, ◌++◌, List, Option, Ok, Err, ap, ◌∙◌, subst, append_assoc}
 use Rattle.std.specs.Prelude.{IfErr, IfOk, Result}
 use Rattle.std.specs.Borrow.{Bor}
 use Rattle.fut_scalar.specs.declared.place.BindId.{BindId}
@@ -7,7 +7,11 @@ use Rattle.fut_flat.specs.Erased.{FlatPattern}
 use Rattle.fut_blocks.specs.declared.block.Atom.{Atom}
 use Rattle.unfold.specs.Held.{known_of, scope_of}
 use Rattle.unfold.specs.Knowns.{Known, Scope, name_and}
+use Rattle.fut_meaning.specs.Found.{Sizing}
+use Rattle.told_rows.specs.Tables.{Told_by}
+use Rattle.unfold.specs.Telling.{enter}
 use Rattle.unfold.specs.Unfolding.{named}
+use Rattle.unfold_parts.specs.Told.{Held_sizes}
 use Rattle.unfold.specs.declared.known.Known.{Known as Held_known}
 use Rattle.unfold.specs.declared.known.Scope.{Scope as Held_scope}
 use Rattle.unfold_parts.specs.Answers.{answered, unanswered, Bound_to}
@@ -31,24 +35,21 @@ module _ (s : Known) (n next : ℕ) where
   pub enter_unnamed : (m m' : ℕ) (r : Refusal) → Renewed s m m' (Err r) → Entered_to s n next (Err r)
   enter_unnamed m m' r (not_renewed x) = not_entered x
 
-module _ (p : FlatPattern) (sc : Scope) (s : Known) (old : Unfolding) where
-  pub turn_end : (i : BindId) (y : ℕ) (new : Unfolding) (inside : Held_scope) (k : Held_known) (r : Result Held_scope Refusal) → Bound_to p s sc old.next (steps_of old) (steps_of new) new.next (Ok inside) → known_of k ≡ named y → IfOk r (λ inner. scope_of inner ≡ name_and i (known_of k) (scope_of inside)) → IfErr r (λ x. x ≡ Memory) → Turn_bound_to p i y sc s old new r
-  turn_end i y new inside k (Ok inner) (answered bs e b) is q m = turn_bound_to bs e b (q ∙ ap (λ z. name_and i z (scope_of inside)) is)
-  turn_end i y new inside k (Err x) h is q m = not_turn_bound (only_memory m)
+module _ (S : Held_sizes) (at : ℕ) (p : FlatPattern) (sc : Scope) (s : Known) (old : Unfolding) where
+  pub turn_end : (counter : ℕ) (i : BindId) (y : ℕ) (new : Unfolding) (inside entered : Held_scope) (k : Held_known) (r : Result Held_scope Refusal) → Bound_to S at p s sc old.next (steps_of old) (steps_of new) new.next (Ok inside) → known_of k ≡ named y → ((Z : Option Sizing) → Told_by S Z → scope_of entered ≡ enter Z counter (known_of k) (scope_of inside)) → IfOk r (λ inner. scope_of inner ≡ name_and i (known_of k) (scope_of entered)) → IfErr r (λ x. x ≡ Memory) → Turn_bound_to S at p counter i y sc s old new r
+  turn_end counter i y new inside entered k (Ok inner) (answered bs e b) is f q m = turn_bound_to bs e b (λ Z t. q ∙ ap (name_and i (known_of k)) (f Z t) ∙ ap (λ z. name_and i z (enter Z counter z (scope_of inside))) is)
+  turn_end counter i y new inside entered k (Err x) h is f q m = not_turn_bound (only_memory m)
 
-  pub turn_err : (i : BindId) (y : ℕ) (new later : Unfolding) (x : Refusal) → Bound_to p s sc old.next (steps_of old) (steps_of new) new.next (Err x) → Turn_bound_to p i y sc s old later (Err x)
-  turn_err i y new later x (unanswered h) = not_turn_bound h
+  pub turn_err : (counter : ℕ) (i : BindId) (y : ℕ) (new later : Unfolding) (x : Refusal) → Bound_to S at p s sc old.next (steps_of old) (steps_of new) new.next (Err x) → Turn_bound_to S at p counter i y sc s old later (Err x)
+  turn_err counter i y new later x (unanswered h) = not_turn_bound h
 
-  pub turn_memory : (i : BindId) (y : ℕ) (new : Unfolding) (x : Refusal) → x ≡ Memory → Turn_bound_to p i y sc s old new (Err x)
-  turn_memory i y new x e = not_turn_bound (only_memory e)
-
-  module _ (q : FlatPattern) (y : ℕ) (mid : Unfolding) where
-    pub row_value_err : (new : Unfolding) (x : Refusal) → Bound_to p s sc old.next (steps_of old) (steps_of mid) mid.next (Err x) → Row_bound_to p q y sc s old new (Err x)
+  module _ (row_at : ℕ) (q : FlatPattern) (y : ℕ) (mid : Unfolding) where
+    pub row_value_err : (new : Unfolding) (x : Refusal) → Bound_to S at p s sc old.next (steps_of old) (steps_of mid) mid.next (Err x) → Row_bound_to S at p row_at q y sc s old new (Err x)
     row_value_err new x (unanswered h) = not_row_bound (refused_as no_value_names h)
 
-    pub row_end : (new : Unfolding) (inside : Held_scope) (k : Known) (r : Result Held_scope Refusal) → k ≡ named y → Bound_to p s sc old.next (steps_of old) (steps_of mid) mid.next (Ok inside) → Bound_to q k (scope_of inside) mid.next (steps_of mid) (steps_of new) new.next r → Row_bound_to p q y sc s old new r
-    row_end new inside k r is h b = by_row r h (subst (λ z. Bound_to q z (scope_of inside) mid.next (steps_of mid) (steps_of new) new.next r) is b)
+    pub row_end : (new : Unfolding) (inside : Held_scope) (k : Known) (r : Result Held_scope Refusal) → k ≡ named y → Bound_to S at p s sc old.next (steps_of old) (steps_of mid) mid.next (Ok inside) → Bound_to S row_at q k (scope_of inside) mid.next (steps_of mid) (steps_of new) new.next r → Row_bound_to S at p row_at q y sc s old new r
+    row_end new inside k r is h b = by_row r h (subst (λ z. Bound_to S row_at q z (scope_of inside) mid.next (steps_of mid) (steps_of new) new.next r) is b)
       where
-        by_row : (r : Result Held_scope Refusal) → Bound_to p s sc old.next (steps_of old) (steps_of mid) mid.next (Ok inside) → Bound_to q (named y) (scope_of inside) mid.next (steps_of mid) (steps_of new) new.next r → Row_bound_to p q y sc s old new r
+        by_row : (r : Result Held_scope Refusal) → Bound_to S at p s sc old.next (steps_of old) (steps_of mid) mid.next (Ok inside) → Bound_to S row_at q (named y) (scope_of inside) mid.next (steps_of mid) (steps_of new) new.next r → Row_bound_to S at p row_at q y sc s old new r
         by_row _ (answered bs e b) (answered cs f b') = row_bound_to bs cs (f ∙ ap (λ z. z ++ cs) e ∙ append_assoc (steps_of old) bs cs) b b'
         by_row _ (answered bs e b) (unanswered h) = not_row_bound (refused_as (no_names_of_row (old.next, bs, mid.next, b)) h)

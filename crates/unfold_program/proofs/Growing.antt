@@ -1,15 +1,14 @@
 -- Steps that grow, and terms whose number is moved to where they stand.
-use Rattle.std.proofs.Common.{◌≡◌, ℕ, ◌+◌, ◌++◌, List, [], ◌∷◌, map, length, get_or, Option, Some, None, true, false, Ok, Err, refl, append_assoc, append-nil, sym, ap, ◌∙◌, subst, arith}
+use Rattle.std.proofs.Common.{◌≡◌, ℕ, ◌+◌, ◌-◌, ◌++◌, List, [], ◌∷◌, map, length, get_or, Option, Some, None, true, false, Ok, Err, refl, append_assoc, append-nil, sym, ap, ◌∙◌, subst, arith}
 use Rattle.std.specs.Prelude.{Result}
 use Rattle.std.specs.Borrow.{Bor}
 use Rattle.fut_scalar.specs.declared.place.BindId.{BindId}
 use Rattle.fut_scalar.specs.declared.place.Place.{Place}
-use Rattle.fut_scalar.specs.declared.scalar.IntType.{IntType}
 use Rattle.fut_flat.specs.declared.exp.Exp.{Exp}
 use Rattle.fut_flat.specs.declared.pat.Pat.{Pat}
 use Rattle.fut_flat.specs.declared.prim.Ref.{Ref}
 use Rattle.fut_flat.specs.Erased.{FlatTerm, pattern_of, patterns, term_of}
-use Rattle.fut_flat.specs.Numbers.{numbers}
+use Rattle.fut_flat.specs.Numbers.{all_pattern_numbers, numbers}
 use Rattle.fut_flat.specs.Terms.{Operation}
 use Rattle.fut_blocks.specs.declared.block.Act.{Act}
 use Rattle.fut_blocks.specs.declared.block.Atom.{Atom}
@@ -17,7 +16,7 @@ use Rattle.fut_blocks.specs.declared.block.Block.{Block}
 use Rattle.fut_blocks.specs.declared.block.Step.{Step}
 use Rattle.fut_blocks.specs.Numbered.{Upward}
 use Rattle.fut_blocks.specs.Plain.{Action, action_of, binding_of, body_of, lets}
-use Rattle.unfold.specs.Held.{known_of}
+use Rattle.unfold.specs.Held.{known_of, scope_of}
 use Rattle.unfold.specs.Knowns.{Function_known, Known, Primitive_known, Record_known, Scalar_known, Scope, Tops, Tuple_known}
 use Rattle.unfold.specs.Shapes.{Laid, laid_scalar}
 use Rattle.unfold.specs.Stuck.{Not_bound, is_function, no_function, no_parameter}
@@ -28,7 +27,7 @@ use Rattle.unfold.specs.declared.known.Known.{Known as Held_known}
 use Rattle.unfold.specs.declared.known.KnownForm.TheVariants as form
 use Rattle.unfold.specs.declared.known.Scope.{Scope as Held_scope}
 use Rattle.unfold.proofs.Mirror.{function_is, known_scalar}
-use Rattle.unfold_parts.specs.Answers.{answered, unanswered, Operated, Cut, Blocked, blocked, not_blocked, Bound_to, Packed_to, Pushed, pushed, not_pushed, Used, not_used}
+use Rattle.unfold_parts.specs.Answers.{answered, unanswered, Operated_at, Cut, Blocked, blocked, not_blocked, Bound_to, Packed_to, Pushed, pushed, not_pushed, Used_to}
 use Rattle.unfold_parts.specs.Layouts.{Laid_to, laid_to, Renewed, renewed, not_renewed, shape_of}
 use Rattle.unfold_parts.specs.Refused.{lost, no_memory}
 use Rattle.unfold_parts.specs.States.{steps_of}
@@ -44,8 +43,11 @@ use Rattle.unfold_program.specs.declared.walked.Parts.{Parts}
 use Rattle.unfold_program.specs.declared.walked.Branch.{Branch}
 use Rattle.unfold_program.specs.declared.walked.Walked.{Walked}
 use Rattle.unfold_program.specs.declared.walked.WalkedScalar.{WalkedScalar}
-use Rattle.unfold_program.specs.Answers.{Stepped_to, stepped_to, not_stepped, is_component, Becomes, stays, becomes_one, Packed_walk, packed_walk, not_packed_walk, Closed_to, closed_to, other_form, not_closed, Packed_closed, Scalar_closed, scalar_closed, not_scalar_closed, Walked_to, walked_to, not_walked, Operated_to, operated_to, not_operated, Use_known, use_known, no_use, Argued, argued, not_argued, scope_in, defined, told}
-use Rattle.unfold_parts.specs.Unsized.{Stuck, Stuck_run, Unfolds}
+use Rattle.unfold_program.specs.Answers.{Stepped_to, stepped_to, not_stepped, is_component, Becomes, stays, becomes_one, Packed_walk, packed_walk, not_packed_walk, Closed_to, closed_to, other_form, not_closed, Packed_closed, Scalar_closed, scalar_closed, not_scalar_closed, Walked_to, walked_to, not_walked, Operated_to, operated_to, not_operated, Use_known, use_known, no_use, Argued, argued, not_argued, node_of, scope_in, defined, told}
+use Rattle.fut_meaning.specs.Found.{Told}
+use Rattle.unfold.specs.Stuck as lacking
+use Rattle.unfold_parts.specs.Told.{Held_sizes, Binds, Stuck, Unfolds}
+use Rattle.unfold_parts.specs.declared.told.Told.{Told as Held_told}
 
 module _ {A : Type 0} where
   pub grown : (a b c bs cs : List A) → b ≡ a ++ bs → c ≡ b ++ cs → c ≡ a ++ (bs ++ cs)
@@ -154,11 +156,11 @@ again_steps mark old mid new f same outside inside l e = same ∙ f outside insi
 
 -- ---- operations and uses
 
-module _ (t : IntType) (o : Operation Ref BindId) (mark : Place) (parts : Parts) (old new : Unfolding) where
-  pub operated_ok : (s : Held_known) → Operated t o mark (map known_of parts.knowns.now) old.next (steps_of old) (steps_of new) new.next (Ok s) → Operated_to t o mark parts old new (Ok (record { known = s; at = parts.at }))
+module _ (T : Held_told) (sc : Scope) (lo : ℕ) (o : Operation Ref BindId) (mark : Place) (parts : Parts) (old new : Unfolding) where
+  pub operated_ok : (s : Held_known) → Operated_at T sc lo o mark (map known_of parts.knowns.now) old.next (steps_of old) (steps_of new) new.next (Ok s) → Operated_to T sc lo o mark parts old new (Ok (record { known = s; at = parts.at }))
   operated_ok s a = operated_to a
 
-  pub operated_err : (r : Refusal) → Operated t o mark (map known_of parts.knowns.now) old.next (steps_of old) (steps_of new) new.next (Err r) → Operated_to t o mark parts old new (Err r)
+  pub operated_err : (r : Refusal) → Operated_at T sc lo o mark (map known_of parts.knowns.now) old.next (steps_of old) (steps_of new) new.next (Err r) → Operated_to T sc lo o mark parts old new (Err r)
   operated_err r (unanswered x) = not_operated x
 
 pub walked_ok : (at : ℕ) (x : Result Held_known Refusal) (s : Held_known) → x ≡ Ok s → Walked_to at x (Ok (record { known = s; at = at }))
@@ -167,27 +169,30 @@ walked_ok at x s e = subst (λ z. Walked_to at z (Ok (record { known = s; at = a
 pub walked_err : (at : ℕ) (x : Result Held_known Refusal) (r : Refusal) → x ≡ Err r → Walked_to at x (Err r)
 walked_err at x r e = subst (λ z. Walked_to at z (Err r)) (sym e) not_walked
 
-pub used_end : (tops : Tops) (sc : Scope) (name : Ref) (lo : ℕ) (e : Exp) (next : ℕ) (s : Result Held_known Refusal) (r : Result Walked Refusal) → next ≡ lo + numbers (term_of e) → Used tops sc name e.place s → Walked_to next s r → Use_known tops sc name lo e r
-used_end tops sc name lo e next _ _ q u walked_to = use_known u q
-used_end tops sc name lo e next _ _ q (not_used x) not_walked = no_use x
+pub used_end : (c : Context) (sc : Scope) (name : Ref) (lo : ℕ) (e : Exp) (old new : Unfolding) (next : ℕ) (s : Result Held_known Refusal) (r : Result Walked Refusal) → next ≡ lo + numbers (term_of e) → Used_to (told c).sizes (defined c) sc name e.place old.next (steps_of old) (steps_of new) new.next s → Walked_to next s r → Use_known c sc name lo e old new r
+used_end c sc name lo e old new next _ _ q u walked_to = use_known u q
+used_end c sc name lo e old new next _ _ q (unanswered x) not_walked = no_use x
 
 -- ---- arguments
 
-module _ (s : Known) (f : Function) (old new : Unfolding) where
+pub node_is : (f : Function) (count : ℕ) → count ≡ 0 + all_pattern_numbers (patterns (map pattern_of f.parameters.now)) → f.first - count ≡ node_of f
+node_is f count e = let q : count ≡ all_pattern_numbers (patterns (map pattern_of f.parameters.now)) = omega (arith, e) in ap (λ z. f.first - z) q
+
+module _ (S : Held_sizes) (s : Known) (f : Function) (old new : Unfolding) where
   -- a function without parameters is none
-  pub argued_none : length f.parameters.now ≡ 0 → Argued f s old new (Err Lost)
+  pub argued_none : length f.parameters.now ≡ 0 → Argued S f s old new (Err Lost)
   unfolding patterns
-  argued_none none = not_argued (lost (λ types tops. no_function (ap is_function (function_is f) ∙ empty f.parameters.now none)))
+  argued_none none = not_argued (lost (λ td tops. no_function (ap is_function (function_is f) ∙ empty f.parameters.now none)))
     where
       empty : (ps : List Pat) → length ps ≡ 0 → is_function (Function_known (patterns (map pattern_of ps)) (term_of f.body.now) f.first (scope_in f)) ≡ false
       empty [] none = refl
       empty (p ∷ ps) none = absurd (omega (arith, none))
 
-  pub argued_end : (d : Pat) (r : Result Held_scope Refusal) → (length f.parameters.now ≡ 0 → ⊥) → Bound_to (pattern_of (get_or f.parameters.now 0 d)) s (scope_in f) old.next (steps_of old) (steps_of new) new.next r → Argued f s old new r
+  pub argued_end : (d : Pat) (at : ℕ) (r : Result Held_scope Refusal) → (length f.parameters.now ≡ 0 → ⊥) → at ≡ node_of f → Bound_to S at (pattern_of (get_or f.parameters.now 0 d)) s (scope_in f) old.next (steps_of old) (steps_of new) new.next r → Argued S f s old new r
   unfolding patterns
-  argued_end d _ some (answered bs e b) = argued d bs some e b
-  argued_end d _ some (unanswered x) = not_argued (refused_as (λ lacks types tops. subst (λ z. Stuck_run types tops z s) (sym (function_is f)) (lacking types tops f.parameters.now some lacks)) x)
+  argued_end d at (Ok inner) some q (answered bs e b) = argued d bs some e (subst (λ z. Binds S z (pattern_of (get_or f.parameters.now 0 d)) s (scope_in f) old.next bs (scope_of inner) new.next) q b)
+  argued_end d at (Err r) some q (unanswered x) = not_argued (refused_as (λ lacks td tops. subst (λ z. lacking.Stuck_run td tops z s) (sym (function_is f)) (none td tops f.parameters.now some lacks)) x)
     where
-      lacking : (types : ℕ → IntType) (tops : Tops) (ps : List Pat) → (length ps ≡ 0 → ⊥) → Not_bound (pattern_of (get_or ps 0 d)) s → Stuck_run types tops (Function_known (patterns (map pattern_of ps)) (term_of f.body.now) f.first (scope_in f)) s
-      lacking types tops [] some lacks = absurd (some refl)
-      lacking types tops (p ∷ ps) some lacks = no_parameter lacks
+      none : (td : Told) (tops : Tops) (ps : List Pat) → (length ps ≡ 0 → ⊥) → Not_bound (pattern_of (get_or ps 0 d)) s → lacking.Stuck_run td tops (Function_known (patterns (map pattern_of ps)) (term_of f.body.now) f.first (scope_in f)) s
+      none td tops [] some lacks = absurd (some refl)
+      none td tops (p ∷ ps) some lacks = no_parameter lacks

@@ -23,7 +23,7 @@ use Rattle.unfold_program.specs.declared.peel.Peeled.{Peeled}
 use Rattle.unfold_program.specs.declared.walked.Context.{Context}
 use Rattle.unfold_program.specs.declared.walked.Walked.{Walked}
 use Rattle.unfold_program.specs.Answers.{is_declared, Peels, bare, declared, Peeled_to, peeled_to, not_peeled, Unfolded, unfolded, refused, defined, told}
-use Rattle.unfold_parts.specs.Unsized.{Stuck, Unfolds}
+use Rattle.unfold_parts.specs.Told.{Stuck, Unfolds}
 
 pub peel_bare : (lo inside : ℕ) (e : Bor Exp) → Peeled_to lo (term_of e.now) (Ok (record { exp = e; at = lo; inside = inside }))
 peel_bare lo inside e = peeled_to bare
@@ -71,11 +71,11 @@ peels_unfolded bare u = u
 peels_unfolded {c} {sc} {lo} {old = old} {new} {r} (declared {u = u} {mark} {e} p) h = around (peels_unfolded p h)
   where
     around : Unfolded c sc (lo + 1) e old new (Ok r) → Unfolded c sc lo (Strict (Declared u) mark (term_and e no_term)) old new (Ok r)
-    around (unfolded bs g v b) = unfolded bs g (subst (λ z. Unfolds (told c) (defined c) sc lo (Strict (Declared u) mark (term_and e no_term)) old.next z (known_of r.known) new.next) (append-nil (bs ++ []) ∙ append-nil bs) (u_strict (u_more v u_none) o_declared)) (omega (arith, b))
+    around (unfolded bs g v b) = unfolded bs g (subst (λ z. Unfolds (told c) (defined c) sc lo (Strict (Declared u) mark (term_and e no_term)) old.next z (known_of r.known) new.next) (append-nil (bs ++ []) ∙ append-nil bs) (λ td tl. u_strict (u_more (v td tl) u_none) o_declared)) (omega (arith, b))
 
 peels_stuck : (c : Context) {sc : Scope} {lo lo' : ℕ} {e t : FlatTerm} → Peels lo e lo' t → Stuck (told c) (defined c) sc lo' t → Stuck (told c) (defined c) sc lo e
 peels_stuck c bare w = w
-peels_stuck c (declared p) w = stuck_parts (stuck_here (peels_stuck c p w))
+peels_stuck c (declared p) w = λ td tl. stuck_parts (stuck_here ((peels_stuck c p w) td tl))
 
 pub unpeeled : (c : Context) (sc : Scope) (lo : ℕ) (e : FlatTerm) (old new : Unfolding) (r : Refusal) → Peeled_to lo e (Err r) → Unfolded c sc lo e old new (Err r)
 unpeeled c sc lo e old new _ not_peeled = refused no_memory

@@ -4,7 +4,6 @@ use Rattle.std.specs.Prelude.{Result, Option}
 use Rattle.std.specs.Borrow.{Bor}
 use Rattle.std.specs.List.{AllClonesOf}
 use Rattle.fut_scalar.specs.declared.place.BindId.{BindId}
-use Rattle.fut_scalar.specs.declared.scalar.IntType.{IntType}
 use Rattle.fut_scalar.specs.declared.sizes.DataType.{DataType}
 use Rattle.fut_flat.specs.declared.program.Definition.{Definition}
 use Rattle.fut_flat.specs.Erased.{FlatTerm, term_of}
@@ -31,11 +30,11 @@ use Rattle.unfold_parts.specs.Held.{maybe_known}
 use Rattle.unfold_parts.specs.Layouts.{Laid_to, laid_to, not_laid, Renewed, renewed, not_renewed, shape_of}
 use Rattle.unfold_parts.specs.Refused.{lost, no_memory}
 use Rattle.unfold_parts.specs.States.{steps_of}
-use Rattle.unfold_parts.specs.Tables.{integer_at}
 use Rattle.unfold_parts.specs.declared.fresh.Fresh.{Fresh}
 use Rattle.unfold_parts.specs.declared.refusal.Refusal.{Refusal}
 use Rattle.unfold_parts.specs.declared.refusal.Refusal.TheVariants.{Lost, Memory}
 use Rattle.unfold_parts.specs.declared.steps.Unfolding.{Unfolding}
+use Rattle.unfold_parts.specs.declared.told.Told.{Told as Held_told}
 use Rattle.unfold_parts.proofs.Forms.{form_no_tuple}
 use Rattle.unfold_parts.proofs.Lacking.{No_tuple}
 use Rattle.unfold_parts.proofs.Refusing.{refused_as, only_memory}
@@ -47,7 +46,7 @@ use Rattle.unfold_program.specs.declared.walked.Walked.{Walked}
 use Rattle.unfold_program.specs.Answers.{All_applied, all_applied, not_all_applied, Applied, applied, not_applied, Unfolded, unfolded, refused, defined, told}
 use Rattle.unfold_program.specs.Whole.{scalars, Are_scalars, Given_to, given_to, not_given, Defined_to, passed_over, defined_to, not_defined, Definitions_to, definitions_to, no_definitions, Entry_stuck, not_known, stuck_there, no_data_there, Entry_to, entry_to, not_entered, Finished, finished, not_finished, Unfolds_to, unfolds_to, no_program}
 use Rattle.unfold_program.proofs.Growing.{grown, not_grown, moved, stuck_at}
-use Rattle.unfold_parts.specs.Unsized.{Applies_all, Definitions_stuck, Definitions_unfold, Program_stuck, Stuck, Stuck_runs, Unfolds}
+use Rattle.unfold_parts.specs.Told.{Applies_all, Definitions_stuck, Definitions_unfold, Program_stuck, Stuck, Stuck_runs, Unfolds}
 
 -- ---- parameters
 
@@ -102,13 +101,13 @@ given_err count n next r m = subst (λ z. Given_to count n next (Err z)) (sym m)
 
 module _ (b : BindId) (e : FlatTerm) (made : Made) (old : Unfolding) where
   pub define_passed : (is_reached_here : Bool) (c : Context) (first next : ℕ) → is_reached_here ≡ false → c ≡ made.context → first ≡ made.at + 1 → next ≡ first + numbers e → Defined_to b e is_reached_here made old old (Ok (record { context = c; at = next }))
-  define_passed is_reached_here c first next h is q q' = passed_over h refl refl (ap (λ (z : Context). z.types.now) is) (ap defined is) (omega (arith, q, q'))
+  define_passed is_reached_here c first next h is q q' = passed_over h refl refl (ap told is) (ap defined is) (omega (arith, q, q'))
 
-  pub define_ok : (is_reached_here : Bool) (c c' : Context) (sc : Scope) (first : ℕ) (new : Unfolding) (w : Walked) → is_reached_here ≡ true → c ≡ made.context → sc ≡ nothing_seen → first ≡ made.at + 1 → Unfolded c sc first e old new (Ok w) → defined c' ≡ (b.0, known_of w.known) ∷ defined c → c'.types.now ≡ c.types.now → Defined_to b e is_reached_here made old new (Ok (record { context = c'; at = w.at }))
+  pub define_ok : (is_reached_here : Bool) (c c' : Context) (sc : Scope) (first : ℕ) (new : Unfolding) (w : Walked) → is_reached_here ≡ true → c ≡ made.context → sc ≡ nothing_seen → first ≡ made.at + 1 → Unfolded c sc first e old new (Ok w) → defined c' ≡ (b.0, known_of w.known) ∷ defined c → told c' ≡ told c → Defined_to b e is_reached_here made old new (Ok (record { context = c'; at = w.at }))
   define_ok is_reached_here c c' sc first new w h is none q (unfolded bs g u k) ds ts =
       defined_to bs h g
       (subst (λ z. Unfolds (told z) (defined z) nothing_seen (1 + made.at) e old.next bs (known_of w.known) new.next) is (moved c (omega (arith, q)) (subst (λ z. Unfolds (told c) (defined c) z first e old.next bs (known_of w.known) new.next) none u)))
-      (ts ∙ ap (λ (z : Context). z.types.now) is) (ds ∙ ap (λ z. (b.0, known_of w.known) ∷ defined z) is) (omega (arith, q, k))
+      (ts ∙ ap told is) (ds ∙ ap (λ z. (b.0, known_of w.known) ∷ defined z) is) (omega (arith, q, k))
 
   pub define_err : (is_reached_here : Bool) (new : Unfolding) (r : Refusal) → r ≡ Memory → Defined_to b e is_reached_here made old new (Err r)
   define_err is_reached_here new r m = not_defined (only_memory m)
@@ -120,15 +119,15 @@ module _ (b : BindId) (e : FlatTerm) (made : Made) (old : Unfolding) where
 -- ---- one definition after the other
 
 -- how far the definitions have come
-pub data Definitions_from (entry : ℕ) (ds : List Definition) (types : List IntType) (old now : Unfolding) (made : Made) (i : ℕ) : Type 0 where
-  definitions_from : (bs : Bindings) → steps_of now ≡ steps_of old ++ bs → made.context.types.now ≡ types → ((end : Tops) (cs : Bindings) (m : ℕ) → Definitions_unfold (integer_at types) entry (defined made.context) (flat_tops made.at (map named_term (drop i ds))) now.next cs end m → Definitions_unfold (integer_at types) entry [] (flat_tops 0 (map named_term ds)) old.next (bs ++ cs) end m) → (Definitions_stuck (integer_at types) entry (defined made.context) (flat_tops made.at (map named_term (drop i ds))) → Definitions_stuck (integer_at types) entry [] (flat_tops 0 (map named_term ds))) → Definitions_from entry ds types old now made i
+pub data Definitions_from (entry : ℕ) (ds : List Definition) (T : Held_told) (old now : Unfolding) (made : Made) (i : ℕ) : Type 0 where
+  definitions_from : (bs : Bindings) → steps_of now ≡ steps_of old ++ bs → told made.context ≡ T → ((end : Tops) (cs : Bindings) (m : ℕ) → Definitions_unfold T entry (defined made.context) (flat_tops made.at (map named_term (drop i ds))) now.next cs end m → Definitions_unfold T entry [] (flat_tops 0 (map named_term ds)) old.next (bs ++ cs) end m) → (Definitions_stuck T entry (defined made.context) (flat_tops made.at (map named_term (drop i ds))) → Definitions_stuck T entry [] (flat_tops 0 (map named_term ds))) → Definitions_from entry ds T old now made i
 
 module _ (entry : ℕ) (ds : List Definition) (old : Unfolding) where
-  pub from_start : (c : Context) → defined c ≡ [] → Definitions_from entry ds c.types.now old old (record { context = c; at = 0 }) 0
-  from_start c e = definitions_from [] (not_grown (steps_of old) (steps_of old) refl) refl (λ end cs m u. subst (λ z. Definitions_unfold (integer_at c.types.now) entry z (flat_tops 0 (map named_term ds)) old.next cs end m) e u) (λ w. subst (λ z. Definitions_stuck (integer_at c.types.now) entry z (flat_tops 0 (map named_term ds))) e w)
+  pub from_start : (c : Context) → defined c ≡ [] → Definitions_from entry ds (told c) old old (record { context = c; at = 0 }) 0
+  from_start c e = definitions_from [] (not_grown (steps_of old) (steps_of old) refl) refl (λ end cs m u. subst (λ z. Definitions_unfold (told c) entry z (flat_tops 0 (map named_term ds)) old.next cs end m) e u) (λ w. subst (λ z. Definitions_stuck (told c) entry z (flat_tops 0 (map named_term ds))) e w)
 
-  module _ (types : List IntType) (now : Unfolding) (made : Made) (i : ℕ) where
-    pub from_more : (new : Unfolding) (r : Made) (d : Definition) (flags : List Bool) (c : Bool) → i < length ds → Reached entry ds flags → c ≡ is_set flags i → Definitions_from entry ds types old now made i → Defined_to (get_or ds i d).bind (term_of (get_or ds i d).value.now) c made now new (Ok r) → Definitions_from entry ds types old new r (i + 1)
+  module _ (T : Held_told) (now : Unfolding) (made : Made) (i : ℕ) where
+    pub from_more : (new : Unfolding) (r : Made) (d : Definition) (flags : List Bool) (c : Bool) → i < length ds → Reached entry ds flags → c ≡ is_set flags i → Definitions_from entry ds T old now made i → Defined_to (get_or ds i d).bind (term_of (get_or ds i d).value.now) c made now new (Ok r) → Definitions_from entry ds T old new r (i + 1)
     unfolding flat_tops
     from_more new r d flags c lt (reached l f) flag (definitions_from bs g ts k kw) h = on h
       where
@@ -141,31 +140,31 @@ module _ (entry : ℕ) (ds : List Definition) (old : Unfolding) where
         told_here : c ≡ is_reached is_flat_use entry (flat_tops next (map named_term (drop (i + 1) ds))) x.bind.0
         told_here = flag ∙ f next i d lt
 
-        here : (end : Tops) (cs : Bindings) (m : ℕ) → Definitions_unfold (integer_at types) entry (defined made.context) (flat_tops made.at (map named_term (x ∷ drop (i + 1) ds))) now.next cs end m → Definitions_unfold (integer_at types) entry [] (flat_tops 0 (map named_term ds)) old.next (bs ++ cs) end m
-        here end cs m u = k end cs m (subst (λ z. Definitions_unfold (integer_at types) entry (defined made.context) (flat_tops made.at (map named_term z)) now.next cs end m) (sym (one_more ds i d lt)) u)
+        here : (end : Tops) (cs : Bindings) (m : ℕ) → Definitions_unfold T entry (defined made.context) (flat_tops made.at (map named_term (x ∷ drop (i + 1) ds))) now.next cs end m → Definitions_unfold T entry [] (flat_tops 0 (map named_term ds)) old.next (bs ++ cs) end m
+        here end cs m u = k end cs m (subst (λ z. Definitions_unfold T entry (defined made.context) (flat_tops made.at (map named_term z)) now.next cs end m) (sym (one_more ds i d lt)) u)
 
-        behind : {tops : Tops} {n : ℕ} (cs : Bindings) (end : Tops) (m : ℕ) → defined r.context ≡ tops → r.at ≡ next → new.next ≡ n → Definitions_unfold (integer_at types) entry (defined r.context) (flat_tops r.at (map named_term (drop (i + 1) ds))) new.next cs end m → Definitions_unfold (integer_at types) entry tops (flat_tops next (map named_term (drop (i + 1) ds))) n cs end m
-        behind {tops} {n} cs end m e q p u = subst (λ z. Definitions_unfold (integer_at types) entry z (flat_tops next (map named_term (drop (i + 1) ds))) n cs end m) e (subst (λ z. Definitions_unfold (integer_at types) entry (defined r.context) (flat_tops z (map named_term (drop (i + 1) ds))) n cs end m) q (subst (λ z. Definitions_unfold (integer_at types) entry (defined r.context) (flat_tops r.at (map named_term (drop (i + 1) ds))) z cs end m) p u))
+        behind : {tops : Tops} {n : ℕ} (cs : Bindings) (end : Tops) (m : ℕ) → defined r.context ≡ tops → r.at ≡ next → new.next ≡ n → Definitions_unfold T entry (defined r.context) (flat_tops r.at (map named_term (drop (i + 1) ds))) new.next cs end m → Definitions_unfold T entry tops (flat_tops next (map named_term (drop (i + 1) ds))) n cs end m
+        behind {tops} {n} cs end m e q p u = subst (λ z. Definitions_unfold T entry z (flat_tops next (map named_term (drop (i + 1) ds))) n cs end m) e (subst (λ z. Definitions_unfold T entry (defined r.context) (flat_tops z (map named_term (drop (i + 1) ds))) n cs end m) q (subst (λ z. Definitions_unfold T entry (defined r.context) (flat_tops r.at (map named_term (drop (i + 1) ds))) z cs end m) p u))
 
-        stuck_here : Definitions_stuck (integer_at types) entry (defined made.context) (flat_tops made.at (map named_term (x ∷ drop (i + 1) ds))) → Definitions_stuck (integer_at types) entry [] (flat_tops 0 (map named_term ds))
-        stuck_here w = kw (subst (λ z. Definitions_stuck (integer_at types) entry (defined made.context) (flat_tops made.at (map named_term z))) (sym (one_more ds i d lt)) w)
+        stuck_here : Definitions_stuck T entry (defined made.context) (flat_tops made.at (map named_term (x ∷ drop (i + 1) ds))) → Definitions_stuck T entry [] (flat_tops 0 (map named_term ds))
+        stuck_here w = kw (subst (λ z. Definitions_stuck T entry (defined made.context) (flat_tops made.at (map named_term z))) (sym (one_more ds i d lt)) w)
 
-        stuck_then : {tops : Tops} → defined r.context ≡ tops → r.at ≡ next → Definitions_stuck (integer_at types) entry (defined r.context) (flat_tops r.at (map named_term (drop (i + 1) ds))) → Definitions_stuck (integer_at types) entry tops (flat_tops next (map named_term (drop (i + 1) ds)))
-        stuck_then e q w = subst (λ z. Definitions_stuck (integer_at types) entry z (flat_tops next (map named_term (drop (i + 1) ds)))) e (subst (λ z. Definitions_stuck (integer_at types) entry (defined r.context) (flat_tops z (map named_term (drop (i + 1) ds)))) q w)
+        stuck_then : {tops : Tops} → defined r.context ≡ tops → r.at ≡ next → Definitions_stuck T entry (defined r.context) (flat_tops r.at (map named_term (drop (i + 1) ds))) → Definitions_stuck T entry tops (flat_tops next (map named_term (drop (i + 1) ds)))
+        stuck_then e q w = subst (λ z. Definitions_stuck T entry z (flat_tops next (map named_term (drop (i + 1) ds)))) e (subst (λ z. Definitions_stuck T entry (defined r.context) (flat_tops z (map named_term (drop (i + 1) ds)))) q w)
 
-        on : Defined_to x.bind (term_of x.value.now) c made now new (Ok r) → Definitions_from entry ds types old new r (i + 1)
-        on (passed_over passed gn nn tn dn an) = definitions_from bs (gn ∙ g) (tn ∙ ts) (λ end cs m u. here end cs m (d_other (sym told_here ∙ passed) (behind cs end m dn an nn u))) (λ w. stuck_here (stuck_other (sym told_here ∙ passed) (stuck_then dn an w)))
+        on : Defined_to x.bind (term_of x.value.now) c made now new (Ok r) → Definitions_from entry ds T old new r (i + 1)
+        on (passed_over passed gn nn tn dn an) = definitions_from bs (gn ∙ g) (tn ∙ ts) (λ end cs m u. here end cs m (λ td tl. d_other (sym told_here ∙ passed) ((behind cs end m dn an nn u) td tl))) (λ w. stuck_here (λ td tl. stuck_other (sym told_here ∙ passed) ((stuck_then dn an w) td tl)))
         on (defined_to {s = s} cs taken gn v tn dn an) = definitions_from (bs ++ cs) (grown (steps_of old) (steps_of now) (steps_of new) bs cs g gn) (tn ∙ ts)
-            (λ end es m u. subst (λ z. Definitions_unfold (integer_at types) entry [] (flat_tops 0 (map named_term ds)) old.next z end m) (sym (append_assoc bs cs es))
-            (here end (cs ++ es) m (d_reached (sym told_here ∙ taken) (subst (λ z. Unfolds (integer_at z) (defined made.context) nothing_seen (1 + made.at) (term_of x.value.now) now.next cs s new.next) ts v) (behind es end m dn an refl u))))
-            (λ w. stuck_here (stuck_next (sym told_here ∙ taken) (subst (λ z. Unfolds (integer_at z) (defined made.context) nothing_seen (1 + made.at) (term_of x.value.now) now.next cs s new.next) ts v) (stuck_then dn an w)))
+            (λ end es m u. subst (λ z. Definitions_unfold T entry [] (flat_tops 0 (map named_term ds)) old.next z end m) (sym (append_assoc bs cs es))
+            (here end (cs ++ es) m (λ td tl. d_reached (sym told_here ∙ taken) ((subst (λ z. Unfolds z (defined made.context) nothing_seen (1 + made.at) (term_of x.value.now) now.next cs s new.next) ts v) td tl) ((behind es end m dn an refl u) td tl))))
+            (λ w. stuck_here (λ td tl. stuck_next (sym told_here ∙ taken) ((subst (λ z. Unfolds z (defined made.context) nothing_seen (1 + made.at) (term_of x.value.now) now.next cs s new.next) ts v) td tl) ((stuck_then dn an w) td tl)))
 
-    pub from_done : length ds ≤ i → Definitions_from entry ds types old now made i → Definitions_to types entry (flat_tops 0 (map named_term ds)) old now (Ok made)
+    pub from_done : length ds ≤ i → Definitions_from entry ds T old now made i → Definitions_to T entry (flat_tops 0 (map named_term ds)) old now (Ok made)
     unfolding flat_tops
-    from_done le (definitions_from bs g ts k kw) = definitions_to bs g ts (subst (λ z. Definitions_unfold (integer_at types) entry [] (flat_tops 0 (map named_term ds)) old.next z (defined made.context) now.next) (append-nil bs) (k (defined made.context) [] now.next (subst (λ z. Definitions_unfold (integer_at types) entry (defined made.context) (flat_tops made.at (map named_term z)) now.next [] (defined made.context) now.next) (sym (drop_end i ds le)) d_none)))
+    from_done le (definitions_from bs g ts k kw) = definitions_to bs g ts (subst (λ z. Definitions_unfold T entry [] (flat_tops 0 (map named_term ds)) old.next z (defined made.context) now.next) (append-nil bs) (k (defined made.context) [] now.next (subst (λ z. Definitions_unfold T entry (defined made.context) (flat_tops made.at (map named_term z)) now.next [] (defined made.context) now.next) (sym (drop_end i ds le)) (λ td tl. d_none))))
 
     -- a definition that is stuck
-    pub from_err : (new : Unfolding) (r : Refusal) (d : Definition) (flags : List Bool) (c : Bool) → i < length ds → Reached entry ds flags → c ≡ is_set flags i → Definitions_from entry ds types old now made i → Defined_to (get_or ds i d).bind (term_of (get_or ds i d).value.now) c made now new (Err r) → Definitions_to types entry (flat_tops 0 (map named_term ds)) old new (Err r)
+    pub from_err : (new : Unfolding) (r : Refusal) (d : Definition) (flags : List Bool) (c : Bool) → i < length ds → Reached entry ds flags → c ≡ is_set flags i → Definitions_from entry ds T old now made i → Defined_to (get_or ds i d).bind (term_of (get_or ds i d).value.now) c made now new (Err r) → Definitions_to T entry (flat_tops 0 (map named_term ds)) old new (Err r)
     unfolding flat_tops
     from_err new r d flags c lt (reached l f) flag (definitions_from bs g ts k kw) (not_defined h) = no_definitions (refused_as here h)
       where
@@ -175,8 +174,8 @@ module _ (entry : ℕ) (ds : List Definition) (old : Unfolding) where
         next : ℕ
         next = made.at + (1 + numbers (term_of x.value.now))
 
-        here : (c ≡ true) × Stuck (told made.context) (defined made.context) nothing_seen (1 + made.at) (term_of x.value.now) → Definitions_stuck (integer_at types) entry [] (flat_tops 0 (map named_term ds))
-        here w = kw (subst (λ z. Definitions_stuck (integer_at types) entry (defined made.context) (flat_tops made.at (map named_term z))) (sym (one_more ds i d lt)) (stuck_definition (sym (flag ∙ f next i d lt) ∙ w.0) (subst (λ z. Stuck (integer_at z) (defined made.context) nothing_seen (1 + made.at) (term_of x.value.now)) ts w.1)))
+        here : (c ≡ true) × Stuck (told made.context) (defined made.context) nothing_seen (1 + made.at) (term_of x.value.now) → Definitions_stuck T entry [] (flat_tops 0 (map named_term ds))
+        here w = kw (subst (λ z. Definitions_stuck T entry (defined made.context) (flat_tops made.at (map named_term z))) (sym (one_more ds i d lt)) (λ td tl. stuck_definition (sym (flag ∙ f next i d lt) ∙ w.0) ((subst (λ z. Stuck z (defined made.context) nothing_seen (1 + made.at) (term_of x.value.now)) ts w.1) td tl)))
 
 -- ---- the entry
 
@@ -191,14 +190,14 @@ module _ (c : Context) (ss : List Held_known) (old : Unfolding) where
   module _ (f : Known) (now : Unfolding) (made : Held_known) (i : ℕ) where
     pub all_more : (new : Unfolding) (r d : Held_known) → i < length ss → Applied_from c ss f old now made i → Applied c (known_of made) (known_of (get_or ss i d)) now new (Ok r) → Applied_from c ss f old new r (i + 1)
     all_more new r d lt (applied_from bs g k kw) (applied cs g' a) = applied_from (bs ++ cs) (grown (steps_of old) (steps_of now) (steps_of new) bs cs g g')
-        (λ es s m u. subst (λ z. Applies_all (told c) (defined c) (map known_of ss) f old.next z s m) (sym (append_assoc bs cs es)) (k (cs ++ es) s m (subst (λ z. Applies_all (told c) (defined c) (map known_of z) (known_of made) now.next (cs ++ es) s m) (sym (one_more ss i d lt)) (a_more a u))))
-        (λ w. kw (subst (λ z. Stuck_runs (told c) (defined c) (map known_of z) (known_of made)) (sym (one_more ss i d lt)) (stuck_on a w)))
+        (λ es s m u. subst (λ z. Applies_all (told c) (defined c) (map known_of ss) f old.next z s m) (sym (append_assoc bs cs es)) (k (cs ++ es) s m (subst (λ z. Applies_all (told c) (defined c) (map known_of z) (known_of made) now.next (cs ++ es) s m) (sym (one_more ss i d lt)) (λ td tl. a_more (a td tl) (u td tl)))))
+        (λ w. kw (subst (λ z. Stuck_runs (told c) (defined c) (map known_of z) (known_of made)) (sym (one_more ss i d lt)) (λ td tl. stuck_on (a td tl) (w td tl))))
 
     pub all_done : length ss ≤ i → Applied_from c ss f old now made i → All_applied c (map known_of ss) f old now (Ok made)
-    all_done le (applied_from bs g k kw) = all_applied bs g (subst (λ z. Applies_all (told c) (defined c) (map known_of ss) f old.next z (known_of made) now.next) (append-nil bs) (k [] (known_of made) now.next (subst (λ z. Applies_all (told c) (defined c) (map known_of z) (known_of made) now.next [] (known_of made) now.next) (sym (drop_end i ss le)) a_none)))
+    all_done le (applied_from bs g k kw) = all_applied bs g (subst (λ z. Applies_all (told c) (defined c) (map known_of ss) f old.next z (known_of made) now.next) (append-nil bs) (k [] (known_of made) now.next (subst (λ z. Applies_all (told c) (defined c) (map known_of z) (known_of made) now.next [] (known_of made) now.next) (sym (drop_end i ss le)) (λ td tl. a_none))))
 
     pub all_err : (new : Unfolding) (d : Held_known) (r : Refusal) → i < length ss → Applied_from c ss f old now made i → Applied c (known_of made) (known_of (get_or ss i d)) now new (Err r) → All_applied c (map known_of ss) f old new (Err r)
-    all_err new d r lt (applied_from bs g k kw) (not_applied x) = not_all_applied (refused_as (λ w. kw (subst (λ z. Stuck_runs (told c) (defined c) (map known_of z) (known_of made)) (sym (one_more ss i d lt)) (stuck_run w))) x)
+    all_err new d r lt (applied_from bs g k kw) (not_applied x) = not_all_applied (refused_as (λ w. kw (subst (λ z. Stuck_runs (told c) (defined c) (map known_of z) (known_of made)) (sym (one_more ss i d lt)) (λ td tl. stuck_run (w td tl)))) x)
 
 -- the entry
 module _ (c : Context) (entry : ℕ) (g : Given) (types : List DataType) (old : Unfolding) (o : Option Held_known) (e : maybe_known o ≡ look (defined c) entry) where
@@ -227,13 +226,13 @@ listed_knowns : (ss : List Known) → listed (knowns ss) ≡ ss
 listed_knowns [] = refl
 listed_knowns (s ∷ ss) = ap (λ z. s ∷ z) (listed_knowns ss)
 
-application_of : (types : List IntType) (made : Made) (ss : List Held_known) (f : Known) (n m : ℕ) (cs : Bindings) (s : Known) → made.context.types.now ≡ types → Applies_all (told made.context) (defined made.context) (map known_of ss) f n cs s m → Applies_all (integer_at types) (defined made.context) (listed (knowns (map known_of ss))) f n cs s m
-application_of types made ss f n m cs s ts a = subst (λ z. Applies_all (integer_at z) (defined made.context) (listed (knowns (map known_of ss))) f n cs s m) ts (subst (λ z. Applies_all (told made.context) (defined made.context) z f n cs s m) (sym (listed_knowns (map known_of ss))) a)
+application_of : (T : Held_told) (made : Made) (ss : List Held_known) (f : Known) (n m : ℕ) (cs : Bindings) (s : Known) → told made.context ≡ T → Applies_all (told made.context) (defined made.context) (map known_of ss) f n cs s m → Applies_all T (defined made.context) (listed (knowns (map known_of ss))) f n cs s m
+application_of T made ss f n m cs s ts a = subst (λ z. Applies_all z (defined made.context) (listed (knowns (map known_of ss))) f n cs s m) ts (subst (λ z. Applies_all (told made.context) (defined made.context) z f n cs s m) (sym (listed_knowns (map known_of ss))) a)
 
-module _ (types : List IntType) (ds : List FlatTop) (entry : ℕ) (sorts : List DataType) where
-  pub whole : (m0 m1 m2 : Unfolding) (g : Given) (made : Made) (answer : Result Program Refusal) → m0.next ≡ 0 → steps_of m0 ≡ [] → Given_to (length sorts) m0.next m1.next (Ok g) → steps_of m1 ≡ steps_of m0 → Definitions_to types entry ds m1 m2 (Ok made) → Entry_to made.context entry g sorts m2 answer → Unfolds_to (integer_at types) ds entry sorts answer
+module _ (T : Held_told) (ds : List FlatTop) (entry : ℕ) (sorts : List DataType) where
+  pub whole : (m0 m1 m2 : Unfolding) (g : Given) (made : Made) (answer : Result Program Refusal) → m0.next ≡ 0 → steps_of m0 ≡ [] → Given_to (length sorts) m0.next m1.next (Ok g) → steps_of m1 ≡ steps_of m0 → Definitions_to T entry ds m1 m2 (Ok made) → Entry_to made.context entry g sorts m2 answer → Unfolds_to T ds entry sorts answer
   whole m0 m1 m2 g made _ zero_first none (given_to up laid) same (definitions_to bs gb ts du) (entry_to {r = r} {f = f} m3 is (all_applied cs gc a) (finished {p = p} {us} ps ss l body below)) =
-      unfolds_to (shape_of (known_of r)) (record {
+      unfolds_to (shape_of (known_of r)) (λ td tl. record {
         arguments = knowns (map known_of g.arguments.now);
         parameters = subst (λ z. All_laid (scalars (length sorts)) (knowns (map known_of g.arguments.now)) (names z) []) (sym ps) laid;
         first = m1.next;
@@ -241,13 +240,13 @@ module _ (types : List IntType) (ds : List FlatTop) (entry : ℕ) (sorts : List 
         defined = bs;
         tops = defined made.context;
         behind = m2.next;
-        definitions = du;
+        definitions = du td tl;
         function = f;
         entry_known = is;
         applied = cs;
         result = known_of r;
         end = m3.next;
-        application = application_of types made g.arguments.now f m2.next m3.next cs (known_of r) ts a;
+        application = (application_of T made g.arguments.now f m2.next m3.next cs (known_of r) ts a) td tl;
         results = us;
         laid = l;
         body = body ∙ ap (λ z. Rattle.fut_blocks.specs.Plain.lets z us) (gc ∙ ap (λ z. z ++ cs) (gb ∙ ap (λ z. z ++ bs) (same ∙ none)));
@@ -255,13 +254,13 @@ module _ (types : List IntType) (ds : List FlatTop) (entry : ℕ) (sorts : List 
       }) ss
   whole m0 m1 m2 g made _ zero_first none (given_to up laid) same (definitions_to bs gb ts du) (not_entered x) = no_program (refused_as here x)
     where
-      here : Entry_stuck made.context entry (map known_of g.arguments.now) m2.next → Program_stuck (integer_at types) ds entry (scalars (length sorts))
-      here (not_known is) = no_entry du is
-      here (stuck_there {f = f} is w) = in_entry du is laid (subst (λ z. Stuck_runs (integer_at z) (defined made.context) (listed (knowns (map known_of g.arguments.now))) f) ts (subst (λ z. Stuck_runs (told made.context) (defined made.context) z f) (sym (listed_knowns (map known_of g.arguments.now))) w))
-      here (no_data_there {n' = n'} {bs = cs} {f = f} {s = s} is a lacks) = no_result du is laid (application_of types made g.arguments.now f m2.next n' cs s ts a) lacks
+      here : Entry_stuck made.context entry (map known_of g.arguments.now) m2.next → Program_stuck T ds entry (scalars (length sorts))
+      here (not_known is) td tl = no_entry (du td tl) is
+      here (stuck_there {f = f} is w) td tl = in_entry (du td tl) is laid ((subst (λ z. Stuck_runs z (defined made.context) (listed (knowns (map known_of g.arguments.now))) f) ts (subst (λ z. Stuck_runs (told made.context) (defined made.context) z f) (sym (listed_knowns (map known_of g.arguments.now))) w)) td tl)
+      here (no_data_there {n' = n'} {bs = cs} {f = f} {s = s} is a lacks) td tl = no_result (du td tl) is laid ((application_of T made g.arguments.now f m2.next n' cs s ts a) td tl) lacks
 
-  pub whole_ungiven : (count n n' : ℕ) (r : Refusal) → Given_to count n n' (Err r) → Unfolds_to (integer_at types) ds entry sorts (Err r)
+  pub whole_ungiven : (count n n' : ℕ) (r : Refusal) → Given_to count n n' (Err r) → Unfolds_to T ds entry sorts (Err r)
   whole_ungiven count n n' _ not_given = no_program no_memory
 
-  pub whole_undefined : (old new : Unfolding) (r : Refusal) → Definitions_to types entry ds old new (Err r) → Unfolds_to (integer_at types) ds entry sorts (Err r)
-  whole_undefined old new r (no_definitions x) = no_program (refused_as in_definitions x)
+  pub whole_undefined : (old new : Unfolding) (r : Refusal) → Definitions_to T entry ds old new (Err r) → Unfolds_to T ds entry sorts (Err r)
+  whole_undefined old new r (no_definitions x) = no_program (refused_as (λ w td tl. in_definitions (w td tl)) x)

@@ -27,7 +27,9 @@ use Rattle.unfold_program.specs.declared.walked.Row.{Row as Held_row}
 use Rattle.unfold_program.specs.declared.walked.Walked.{Walked}
 use Rattle.unfold_program.specs.Answers.{Unfolded, unfolded, refused, All_unfolded, all_unfolded, all_refused, Leads, Row_unfolded, row_unfolded, row_refused, defined, told}
 use Rattle.unfold_program.proofs.Growing.{grown, not_grown, moved, stuck_at}
-use Rattle.unfold_parts.specs.Unsized.{Stuck, Stuck_all, Unfold_all, Unfolds}
+use Rattle.fut_meaning.specs.Found.{Told}
+use Rattle.unfold.specs.Unfolding as rules
+use Rattle.unfold_parts.specs.Told.{Tell, Stuck, Stuck_all, Unfold_all, Unfolds}
 
 -- ---- parts
 
@@ -43,8 +45,8 @@ module _ (c : Context) (sc : Scope) (lo : ℕ) (es : List Exp) (old : Unfolding)
   unfolding terms
   parts_more now new done done' at i d r lt (parts_lead bs g f k h) (unfolded cs g' u h') e =
       parts_lead (bs ++ cs) (grown (steps_of old) (steps_of now) (steps_of new) bs cs g g')
-      (λ ds ss m v. subst (λ z. Unfold_all (told c) (defined c) sc lo (terms (map term_of es)) old.next z (map known_of done' ++ ss) m) (sym (append_assoc bs cs ds)) (subst (λ z. Unfold_all (told c) (defined c) sc lo (terms (map term_of es)) old.next (bs ++ (cs ++ ds)) z m) (list ss) (f (cs ++ ds) (known_of r.known ∷ ss) m (subst (λ z. Unfold_all (told c) (defined c) sc at (terms (map term_of z)) now.next (cs ++ ds) (known_of r.known ∷ ss) m) (sym (one_more es i d lt)) (u_more u (subst (λ z. Unfold_all (told c) (defined c) sc z (terms (map term_of (drop (i + 1) es))) new.next ds ss m) h' v))))))
-      (λ w. k (subst (λ z. Stuck_all (told c) (defined c) sc at (terms (map term_of z))) (sym (one_more es i d lt)) (stuck_later u (subst (λ z. Stuck_all (told c) (defined c) sc z (terms (map term_of (drop (i + 1) es)))) h' w))))
+      (λ ds ss m v. subst (λ z. Unfold_all (told c) (defined c) sc lo (terms (map term_of es)) old.next z (map known_of done' ++ ss) m) (sym (append_assoc bs cs ds)) (subst (λ z. Unfold_all (told c) (defined c) sc lo (terms (map term_of es)) old.next (bs ++ (cs ++ ds)) z m) (list ss) (f (cs ++ ds) (known_of r.known ∷ ss) m (subst (λ z. Unfold_all (told c) (defined c) sc at (terms (map term_of z)) now.next (cs ++ ds) (known_of r.known ∷ ss) m) (sym (one_more es i d lt)) (λ td tl. u_more (u td tl) ((subst (λ z. Unfold_all (told c) (defined c) sc z (terms (map term_of (drop (i + 1) es))) new.next ds ss m) h' v) td tl))))))
+      (λ w. k (subst (λ z. Stuck_all (told c) (defined c) sc at (terms (map term_of z))) (sym (one_more es i d lt)) (λ td tl. stuck_later (u td tl) ((subst (λ z. Stuck_all (told c) (defined c) sc z (terms (map term_of (drop (i + 1) es)))) h' w) td tl))))
       (omega (arith, h, h', ap (λ z. all_numbers (terms (map term_of z))) (one_more es i d lt)))
     where
       list : (ss : List Known) → map known_of done ++ known_of r.known ∷ ss ≡ map known_of done' ++ ss
@@ -54,12 +56,12 @@ module _ (c : Context) (sc : Scope) (lo : ℕ) (es : List Exp) (old : Unfolding)
   unfolding terms
   parts_done now done at i all le (parts_lead bs g f k h) e =
       all_unfolded bs g
-      (subst (λ z. Unfold_all (told c) (defined c) sc lo (terms (map term_of es)) old.next z (map known_of all.now) now.next) (append-nil bs) (subst (λ z. Unfold_all (told c) (defined c) sc lo (terms (map term_of es)) old.next (bs ++ []) z now.next) (append-nil (map known_of done) ∙ ap (map known_of) (sym e)) (f [] [] now.next (subst (λ z. Unfold_all (told c) (defined c) sc at (terms (map term_of z)) now.next [] [] now.next) (sym (drop_end i es le)) u_none))))
+      (subst (λ z. Unfold_all (told c) (defined c) sc lo (terms (map term_of es)) old.next z (map known_of all.now) now.next) (append-nil bs) (subst (λ z. Unfold_all (told c) (defined c) sc lo (terms (map term_of es)) old.next (bs ++ []) z now.next) (append-nil (map known_of done) ∙ ap (map known_of) (sym e)) (f [] [] now.next (subst (λ z. Unfold_all (told c) (defined c) sc at (terms (map term_of z)) now.next [] [] now.next) (sym (drop_end i es le)) (λ td tl. u_none)))))
       (omega (arith, h, ap (λ z. all_numbers (terms (map term_of z))) (drop_end i es le)))
 
   pub parts_err : (now new : Unfolding) (done : List Held_known) (at i : ℕ) (d : Exp) (r : Refusal) → i < length es → Parts_lead c sc lo es old now done at i → Unfolded c sc at (term_of (get_or es i d)) now new (Err r) → All_unfolded c sc lo (terms (map term_of es)) old new (Err r)
   unfolding terms
-  parts_err now new done at i d r lt (parts_lead bs g f k h) (refused x) = all_refused (refused_as (λ w. k (subst (λ z. Stuck_all (told c) (defined c) sc at (terms (map term_of z))) (sym (one_more es i d lt)) (stuck_here w))) x)
+  parts_err now new done at i d r lt (parts_lead bs g f k h) (refused x) = all_refused (refused_as (λ w. k (subst (λ z. Stuck_all (told c) (defined c) sc at (terms (map term_of z))) (sym (one_more es i d lt)) (λ td tl. stuck_here (w td tl)))) x)
 
 -- ---- lets
 
@@ -75,17 +77,20 @@ module _ {c : Context} {sc : Scope} {lo : ℕ} {e : FlatTerm} {n : ℕ} where
   }
 
 module _ (c : Context) (row : Held_row) (l : LetTree) (old new : Unfolding) where
-  pub let_ok : (first value : ℕ) (mid : Unfolding) (r : Walked) (inner : Held_scope) → first ≡ row.at + 1 → value ≡ first + pattern_numbers (pattern_of l.pat) → Unfolded c (scope_of row.scope) value (term_of l.value) old mid (Ok r) → Bound_to (pattern_of l.pat) (known_of r.known) (scope_of row.scope) mid.next (steps_of mid) (steps_of new) new.next (Ok inner) → Row_unfolded c row (row_of l ∷ []) old new (Ok (record { scope = inner; at = r.at }))
+  pub let_ok : (first value : ℕ) (mid : Unfolding) (r : Walked) (inner : Held_scope) → first ≡ row.at + 1 → value ≡ first + pattern_numbers (pattern_of l.pat) → Unfolded c (scope_of row.scope) value (term_of l.value) old mid (Ok r) → Bound_to (told c).sizes first (pattern_of l.pat) (known_of r.known) (scope_of row.scope) mid.next (steps_of mid) (steps_of new) new.next (Ok inner) → Row_unfolded c row (row_of l ∷ []) old new (Ok (record { scope = inner; at = r.at }))
   unfolding lets
   let_ok first value mid r inner q q' (unfolded bs g u h) (answered es k b) = row_unfolded (bs ++ es) (grown (steps_of old) (steps_of mid) (steps_of new) bs es g k) (λ body. subst (λ (z : Row). Leads c (scope_of row.scope) row.at (Let z.0 z.1 body) old.next (bs ++ es) (scope_of inner) r.at body new.next) (sym (row_is l)) (one body))
     where
       this : FlatTerm → FlatTerm
       this body = Let (record { sizes = l.sizes.now; parameters = parameters l.heads.now; is_function = l.is_function; pattern = pattern_of l.pat }) (term_of l.value) body
 
+      bind_at : (td : Told) → Tell (told c) td → rules.Binds td.sizes (1 + row.at) (pattern_of l.pat) (known_of r.known) (scope_of row.scope) mid.next es (scope_of inner) new.next
+      bind_at td tl = subst (λ z. rules.Binds td.sizes z (pattern_of l.pat) (known_of r.known) (scope_of row.scope) mid.next es (scope_of inner) new.next) (let e : first ≡ 1 + row.at = omega (arith, q) in e) (b td.sizes tl.sizes)
+
       one : (body : FlatTerm) → Leads c (scope_of row.scope) row.at (this body) old.next (bs ++ es) (scope_of inner) r.at body new.next
       one body = record {
-        unfolds = λ cs s m v. subst (λ z. Unfolds (told c) (defined c) (scope_of row.scope) row.at (this body) old.next z s m) (sym (append_assoc bs es cs)) (u_let (moved c (omega (arith, q, q')) u) (b _) (moved c (omega (arith, q, q', h)) v));
-        stuck = λ w. stuck_behind (moved c (omega (arith, q, q')) u) (mid.next, es, new.next, b _) (stuck_at c (omega (arith, q, q', h)) w);
+        unfolds = λ cs s m v. subst (λ z. Unfolds (told c) (defined c) (scope_of row.scope) row.at (this body) old.next z s m) (sym (append_assoc bs es cs)) (λ td tl. u_let ((moved c (omega (arith, q, q')) u) td tl) (bind_at td tl) ((moved c (omega (arith, q, q', h)) v) td tl));
+        stuck = λ w td tl. stuck_behind ((moved c (omega (arith, q, q')) u) td tl) (mid.next, es, new.next, bind_at td tl) ((stuck_at c (omega (arith, q, q', h)) w) td tl);
         behind = omega (arith, q, q', h);
       }
 
@@ -95,10 +100,10 @@ module _ (c : Context) (row : Held_row) (l : LetTree) (old new : Unfolding) wher
   one_stuck f body = subst (λ (z : Row). Stuck (told c) (defined c) (scope_of row.scope) row.at (Let z.0 z.1 body)) (sym (row_is l)) (f body)
 
   pub let_value_err : (first value : ℕ) (r : Refusal) → first ≡ row.at + 1 → value ≡ first + pattern_numbers (pattern_of l.pat) → Unfolded c (scope_of row.scope) value (term_of l.value) old new (Err r) → Row_unfolded c row (row_of l ∷ []) old new (Err r)
-  let_value_err first value r q q' (refused x) = row_refused (refused_as (λ w. one_stuck (λ body. stuck_value (stuck_at c (omega (arith, q, q')) w))) x)
+  let_value_err first value r q q' (refused x) = row_refused (refused_as (λ w. one_stuck (λ body td tl. stuck_value ((stuck_at c (omega (arith, q, q')) w) td tl))) x)
 
-  pub let_err : (first value : ℕ) (mid : Unfolding) (v : Walked) (r : Refusal) → first ≡ row.at + 1 → value ≡ first + pattern_numbers (pattern_of l.pat) → Unfolded c (scope_of row.scope) value (term_of l.value) old mid (Ok v) → Bound_to (pattern_of l.pat) (known_of v.known) (scope_of row.scope) mid.next (steps_of mid) (steps_of new) new.next (Err r) → Row_unfolded c row (row_of l ∷ []) old new (Err r)
-  let_err first value mid v r q q' (unfolded bs g u h) (unanswered x) = row_refused (refused_as (λ lacks. one_stuck (λ body. no_pattern_of (moved c (omega (arith, q, q')) u) lacks)) x)
+  pub let_err : (first value : ℕ) (mid : Unfolding) (v : Walked) (r : Refusal) → first ≡ row.at + 1 → value ≡ first + pattern_numbers (pattern_of l.pat) → Unfolded c (scope_of row.scope) value (term_of l.value) old mid (Ok v) → Bound_to (told c).sizes first (pattern_of l.pat) (known_of v.known) (scope_of row.scope) mid.next (steps_of mid) (steps_of new) new.next (Err r) → Row_unfolded c row (row_of l ∷ []) old new (Err r)
+  let_err first value mid v r q q' (unfolded bs g u h) (unanswered x) = row_refused (refused_as (λ lacks. one_stuck (λ body td tl. no_pattern_of ((moved c (omega (arith, q, q')) u) td tl) lacks)) x)
 
 -- how far a row has come, whatever stands behind it
 pub data Row_leads (c : Context) (row : Held_row) (ls : List LetTree) (old now : Unfolding) (at : Held_row) (i : ℕ) : Type 0 where
@@ -124,13 +129,13 @@ module _ (c : Context) (row : Held_row) (ls : List LetTree) (old : Unfolding) wh
 
   -- the next let
   module _ (now new : Unfolding) (at : Held_row) (i : ℕ) (d : LetTree) (inside value : ℕ) (lt : i < length ls) (before : Row_leads c row ls old now at i) (q : inside ≡ at.at + 1) (q' : value ≡ inside + pattern_numbers (pattern_of (get_or ls i d).pat)) where
-    pub row_next : (mid : Unfolding) (r : Walked) (inner : Held_scope) → Unfolded c (scope_of at.scope) value (term_of (get_or ls i d).value) now mid (Ok r) → Bound_to (pattern_of (get_or ls i d).pat) (known_of r.known) (scope_of at.scope) mid.next (steps_of mid) (steps_of new) new.next (Ok inner) → Row_leads c row ls old new (record { scope = inner; at = r.at }) (i + 1)
+    pub row_next : (mid : Unfolding) (r : Walked) (inner : Held_scope) → Unfolded c (scope_of at.scope) value (term_of (get_or ls i d).value) now mid (Ok r) → Bound_to (told c).sizes inside (pattern_of (get_or ls i d).pat) (known_of r.known) (scope_of at.scope) mid.next (steps_of mid) (steps_of new) new.next (Ok inner) → Row_leads c row ls old new (record { scope = inner; at = r.at }) (i + 1)
     row_next mid r inner u b = row_more now new at (record { scope = inner; at = r.at }) i d lt before (let_ok c at (get_or ls i d) now new inside value mid r inner q q' u b)
 
     pub row_value_err : (r : Refusal) → Unfolded c (scope_of at.scope) value (term_of (get_or ls i d).value) now new (Err r) → Row_unfolded c row (map row_of ls) old new (Err r)
     row_value_err r u = row_err now new at i d r lt before (let_value_err c at (get_or ls i d) now new inside value r q q' u)
 
-    pub row_bind_err : (mid : Unfolding) (v : Walked) (r : Refusal) → Unfolded c (scope_of at.scope) value (term_of (get_or ls i d).value) now mid (Ok v) → Bound_to (pattern_of (get_or ls i d).pat) (known_of v.known) (scope_of at.scope) mid.next (steps_of mid) (steps_of new) new.next (Err r) → Row_unfolded c row (map row_of ls) old new (Err r)
+    pub row_bind_err : (mid : Unfolding) (v : Walked) (r : Refusal) → Unfolded c (scope_of at.scope) value (term_of (get_or ls i d).value) now mid (Ok v) → Bound_to (told c).sizes inside (pattern_of (get_or ls i d).pat) (known_of v.known) (scope_of at.scope) mid.next (steps_of mid) (steps_of new) new.next (Err r) → Row_unfolded c row (map row_of ls) old new (Err r)
     row_bind_err mid v r u b = row_err now new at i d r lt before (let_err c at (get_or ls i d) now new inside value mid v r q q' u b)
 
 -- how far rows behind each other have come

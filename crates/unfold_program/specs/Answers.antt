@@ -2,7 +2,6 @@
 use Rattle.std.specs.Prelude.{◌≡◌, ℕ, ◌+◌, ◌++◌, List, [], ◌∷◌, map, length, get_or, Bool, true, false, Option, Some, None, Result, Ok, Err}
 use Rattle.fut_scalar.specs.declared.place.BindId.{BindId}
 use Rattle.fut_scalar.specs.declared.place.Place.{Place}
-use Rattle.fut_scalar.specs.declared.scalar.IntType.{IntType}
 use Rattle.fut_flat.specs.declared.act.Act.{Act}
 use Rattle.fut_flat.specs.declared.act.Act.TheVariants as act
 use Rattle.fut_flat.specs.declared.exp.Exp.{Exp}
@@ -11,10 +10,10 @@ use Rattle.fut_flat.specs.declared.prim.Primitive.{Primitive}
 use Rattle.fut_flat.specs.declared.prim.Ref.{Ref}
 use Rattle.fut_scalar.specs.declared.scalar.Scalar.TheVariants as scalar
 use Rattle.fut_flat.specs.declared.pat.Pat.{Pat}
-use Rattle.fut_flat.specs.Erased.{FlatPattern, FlatTerm, FlatType, lets, pattern_of, term_of}
+use Rattle.fut_flat.specs.Erased.{FlatPattern, FlatTerm, FlatType, lets, pattern_of, patterns, term_of}
 use Rattle.fut_flat.specs.Erased as erased
 use Rattle.fut_flat.specs.Numbers.{all_numbers, all_pattern_numbers, numbers, pattern_numbers}
-use Rattle.fut_flat.specs.Terms.{Declared, If, Loop, Operation, Patterns, Strict, Terms, Use, no_term, term_and}
+use Rattle.fut_flat.specs.Terms.{Declared, If, Loop, Operation, Patterns, Strict, Terms, no_term, term_and}
 use Rattle.fut_blocks.specs.declared.block.Atom.{Atom}
 use Rattle.fut_blocks.specs.Numbered.{Upward}
 use Rattle.fut_blocks.specs.Plain as plain
@@ -22,12 +21,17 @@ use Rattle.fut_blocks.specs.Plain.{Action, Body, body_of}
 use Rattle.unfold.specs.Held.{entered_of, function_of, known_of, names_of, scope_of}
 use Rattle.unfold.specs.Knowns.{Function_known, Known, Knowns, Primitive_known, Scalar_known, Scope, Tops, listed, name_and, seeing}
 use Rattle.unfold.specs.Shapes.{Laid}
+use Rattle.fut_meaning.specs.Found.{Sizing, Told}
+use Rattle.fut_meaning.specs.Meaning.{first_node}
+use Rattle.told_rows.specs.Tables.{Told_by}
+use Rattle.unfold.specs.Stuck as lacking
+use Rattle.unfold.specs.Telling.{enter}
 use Rattle.unfold.specs.Stuck.{No_data, No_operation, No_scalar, Not_bound}
 use Rattle.unfold.specs.Unfolding.{Bindings, Packs, constant, named, names, step}
 use Rattle.unfold.specs.declared.known.Function.{Function}
 use Rattle.unfold.specs.declared.known.Known.{Known as Held_known}
 use Rattle.unfold.specs.declared.known.Scope.{Scope as Held_scope}
-use Rattle.unfold_parts.specs.Answers.{Is_ready, Operated, Used}
+use Rattle.unfold_parts.specs.Answers.{Is_ready, No_use, Operated_at, Used_to}
 use Rattle.unfold_parts.specs.Layouts.{shape_of}
 use Rattle.unfold_parts.specs.Refused.{Refused}
 use Rattle.unfold_parts.specs.States.{steps_of}
@@ -35,6 +39,7 @@ use Rattle.unfold_parts.specs.Tables.{integer_at, tops_of}
 use Rattle.unfold_parts.specs.declared.refusal.Refusal.{Refusal}
 use Rattle.unfold_parts.specs.declared.refusal.Refusal.TheVariants.{Memory}
 use Rattle.unfold_parts.specs.declared.steps.Unfolding.{Unfolding}
+use Rattle.unfold_parts.specs.declared.told.Told.{Told as Held_told}
 use Rattle.unfold_program.specs.declared.peel.Peeled.{Peeled}
 use Rattle.unfold_program.specs.declared.walked.Context.{Context}
 use Rattle.unfold_program.specs.declared.walked.Shapes.{Shapes}
@@ -45,7 +50,7 @@ use Rattle.unfold_program.specs.declared.walked.Parts.{Parts}
 use Rattle.unfold_program.specs.declared.walked.Branch.{Branch}
 use Rattle.unfold_program.specs.declared.walked.Row.{Row}
 use Rattle.unfold_program.specs.declared.walked.Entered.{Entered}
-use Rattle.unfold_parts.specs.Unsized.{Applies, Applies_all, Binds, Binds_to, Stuck, Stuck_all, Stuck_run, Stuck_runs, Unfold_all, Unfolds}
+use Rattle.unfold_parts.specs.Told.{Held_sizes, Applies, Applies_all, Binds, Binds_to, Stuck, Stuck_all, Stuck_run, Stuck_runs, Unfold_all, Unfolds}
 
 -- ---- declared types around a term
 
@@ -77,11 +82,11 @@ agreed (Err r) w = Err r
 
 -- ---- terms
 
-abbrev pub told : Context → ℕ → IntType
-told c = integer_at c.types.now
+abbrev pub told : Context → Held_told
+told c = c.told
 
 abbrev pub defined : Context → Tops
-defined c = tops_of c.tops.value
+defined c = tops_of c.tops
 
 -- the steps grew by those of the term, and so did the names
 pub data Unfolded (c : Context) (sc : Scope) (lo : ℕ) (t : FlatTerm) (old new : Unfolding) : Result Walked Refusal → Type 0 where
@@ -115,14 +120,14 @@ pub data Walked_to (at : ℕ) : Result Held_known Refusal → Result Walked Refu
   not_walked : {r : Refusal} → Walked_to at (Err r) (Err r)
 
 -- an operation on parts
-pub data Operated_to (t : IntType) (o : Operation Ref BindId) (mark : Place) (parts : Parts) (old new : Unfolding) : Result Walked Refusal → Type 0 where
-  operated_to : {s : Held_known} → Operated t o mark (map known_of parts.knowns.now) old.next (steps_of old) (steps_of new) new.next (Ok s) → Operated_to t o mark parts old new (Ok (record { known = s; at = parts.at }))
-  not_operated : {r : Refusal} → Refused (No_operation t o mark (map known_of parts.knowns.now)) r → Operated_to t o mark parts old new (Err r)
+pub data Operated_to (T : Held_told) (sc : Scope) (lo : ℕ) (o : Operation Ref BindId) (mark : Place) (parts : Parts) (old new : Unfolding) : Result Walked Refusal → Type 0 where
+  operated_to : {s : Held_known} → Operated_at T sc lo o mark (map known_of parts.knowns.now) old.next (steps_of old) (steps_of new) new.next (Ok s) → Operated_to T sc lo o mark parts old new (Ok (record { known = s; at = parts.at }))
+  not_operated : {r : Refusal} → Refused (No_operation (integer_at T.types.now lo) o mark (map known_of parts.knowns.now)) r → Operated_to T sc lo o mark parts old new (Err r)
 
--- a use, which takes no steps
-pub data Use_known (tops : Tops) (sc : Scope) (name : Ref) (lo : ℕ) (e : Exp) : Result Walked Refusal → Type 0 where
-  use_known : {r : Walked} → Used tops sc name e.place (Ok r.known) → r.at ≡ lo + numbers (term_of e) → Use_known tops sc name lo e (Ok r)
-  no_use : {r : Refusal} → Refused ((integer_at : ℕ → IntType) (lo k : ℕ) → Stuck integer_at tops sc lo (Use name e.place k)) r → Use_known tops sc name lo e (Err r)
+-- a use
+pub data Use_known (c : Context) (sc : Scope) (name : Ref) (lo : ℕ) (e : Exp) (old new : Unfolding) : Result Walked Refusal → Type 0 where
+  use_known : {r : Walked} → Used_to (told c).sizes (defined c) sc name e.place old.next (steps_of old) (steps_of new) new.next (Ok r.known) → r.at ≡ lo + numbers (term_of e) → Use_known c sc name lo e old new (Ok r)
+  no_use : {r : Refusal} → Refused (No_use (told c).sizes (defined c) sc name e.place) r → Use_known c sc name lo e old new (Err r)
 
 -- a function, by the number behind that of its own node
 pub data Lambda_known (sc : Scope) (inside : ℕ) (ps : Patterns Ref BindId) (e : FlatTerm) : Result Walked Refusal → Type 0 where
@@ -133,10 +138,14 @@ pub data Lambda_known (sc : Scope) (inside : ℕ) (ps : Patterns Ref BindId) (e 
 abbrev pub scope_in : Function → Scope
 scope_in f = seeing (names_of f.names.now) (entered_of f.entered.now)
 
+-- the node of the first parameter that is left
+abbrev pub node_of : Function → ℕ
+node_of f = first_node (patterns (map pattern_of f.parameters.now)) f.first
+
 -- the names around the body of a function whose first parameter is bound to an argument
-pub data Argued (f : Function) (s : Known) (old new : Unfolding) : Result Held_scope Refusal → Type 0 where
-  argued : {inner : Held_scope} (d : Pat) (bs : Bindings) → (length f.parameters.now ≡ 0 → ⊥) → steps_of new ≡ steps_of old ++ bs → Binds (pattern_of (get_or f.parameters.now 0 d)) s (scope_in f) old.next bs (scope_of inner) new.next → Argued f s old new (Ok inner)
-  not_argued : {r : Refusal} → Refused ((types : ℕ → IntType) (tops : Tops) → Stuck_run types tops (function_of f) s) r → Argued f s old new (Err r)
+pub data Argued (S : Held_sizes) (f : Function) (s : Known) (old new : Unfolding) : Result Held_scope Refusal → Type 0 where
+  argued : {inner : Held_scope} (d : Pat) (bs : Bindings) → (length f.parameters.now ≡ 0 → ⊥) → steps_of new ≡ steps_of old ++ bs → Binds S (node_of f) (pattern_of (get_or f.parameters.now 0 d)) s (scope_in f) old.next bs (scope_of inner) new.next → Argued S f s old new (Ok inner)
+  not_argued : {r : Refusal} → Refused ((w : Told) (tops : Tops) → lacking.Stuck_run w tops (function_of f) s) r → Argued S f s old new (Err r)
 
 -- a function applied to arguments, one after the other
 pub data All_applied (c : Context) (ss : List Known) (f : Known) (old new : Unfolding) : Result Held_known Refusal → Type 0 where
@@ -232,56 +241,56 @@ pub data Entered_to (s : Known) (n next : ℕ) : Result Entered Refusal → Type
   entered_to : {r : Entered} → Laid (shape_of s) s r.first.now [] → Upward n r.params.now next → Laid (shape_of s) (known_of r.known) (names r.params.now) [] → Entered_to s n next (Ok r)
   not_entered : {r : Refusal} → Refused (No_data s) r → Entered_to s n next (Err r)
 
--- the names of a turn, whose number has a name
-pub data Turn_bound_to (p : FlatPattern) (i : BindId) (y : ℕ) (sc : Scope) (s : Known) (old new : Unfolding) : Result Held_scope Refusal → Type 0 where
-  turn_bound_to : {inner : Held_scope} {inside : Scope} (bs : Bindings) → steps_of new ≡ steps_of old ++ bs → Binds p s sc old.next bs inside new.next → scope_of inner ≡ name_and i (named y) inside → Turn_bound_to p i y sc s old new (Ok inner)
-  not_turn_bound : {r : Refusal} → Refused (Not_bound p s) r → Turn_bound_to p i y sc s old new (Err r)
+-- the names of a turn, whose number has a name; the loop's pattern and the index have nodes
+pub data Turn_bound_to (S : Held_sizes) (at : ℕ) (p : FlatPattern) (counter : ℕ) (i : BindId) (y : ℕ) (sc : Scope) (s : Known) (old new : Unfolding) : Result Held_scope Refusal → Type 0 where
+  turn_bound_to : {inner : Held_scope} {inside : Scope} (bs : Bindings) → steps_of new ≡ steps_of old ++ bs → Binds S at p s sc old.next bs inside new.next → ((Z : Option Sizing) → Told_by S Z → scope_of inner ≡ name_and i (named y) (enter Z counter (named y) inside)) → Turn_bound_to S at p counter i y sc s old new (Ok inner)
+  not_turn_bound : {r : Refusal} → Refused (Not_bound p s) r → Turn_bound_to S at p counter i y sc s old new (Err r)
 
 -- why there are no names of a turn for a row: the pattern of the loop has not the form of its value, or that of the row none of a
 -- component
-pub data No_row_names (p q : FlatPattern) (y : ℕ) (sc : Scope) (s : Known) : Type 0 where
-  no_value_names : Not_bound p s → No_row_names p q y sc s
-  no_names_of_row : {inside : Scope} → Binds_to p s sc inside → Not_bound q (named y) → No_row_names p q y sc s
+pub data No_row_names (S : Held_sizes) (at : ℕ) (p q : FlatPattern) (y : ℕ) (sc : Scope) (s : Known) : Type 0 where
+  no_value_names : Not_bound p s → No_row_names S at p q y sc s
+  no_names_of_row : {inside : Scope} → Binds_to S at p s sc inside → Not_bound q (named y) → No_row_names S at p q y sc s
 
-pub data Row_bound_to (p q : FlatPattern) (y : ℕ) (sc : Scope) (s : Known) (old new : Unfolding) : Result Held_scope Refusal → Type 0 where
-  row_bound_to : {inner : Held_scope} {inside : Scope} {k : ℕ} (bs cs : Bindings) → steps_of new ≡ steps_of old ++ (bs ++ cs) → Binds p s sc old.next bs inside k → Binds q (named y) inside k cs (scope_of inner) new.next → Row_bound_to p q y sc s old new (Ok inner)
-  not_row_bound : {r : Refusal} → Refused (No_row_names p q y sc s) r → Row_bound_to p q y sc s old new (Err r)
+pub data Row_bound_to (S : Held_sizes) (at : ℕ) (p : FlatPattern) (row_at : ℕ) (q : FlatPattern) (y : ℕ) (sc : Scope) (s : Known) (old new : Unfolding) : Result Held_scope Refusal → Type 0 where
+  row_bound_to : {inner : Held_scope} {inside : Scope} {k : ℕ} (bs cs : Bindings) → steps_of new ≡ steps_of old ++ (bs ++ cs) → Binds S at p s sc old.next bs inside k → Binds S row_at q (named y) inside k cs (scope_of inner) new.next → Row_bound_to S at p row_at q y sc s old new (Ok inner)
+  not_row_bound : {r : Refusal} → Refused (No_row_names S at p q y sc s) r → Row_bound_to S at p row_at q y sc s old new (Err r)
 
 -- A loop, once its first value is known: what it unfolds to in all, from where its first value was unfolded.
-pub record Looped (c : Context) (sc : Scope) (l : LoopTree) (turns : erased.FlatTurns) (first : Walked) (old new : Unfolding) (r : Walked) : Type 0 where
+pub record Looped (c : Context) (sc : Scope) (inside : ℕ) (l : LoopTree) (turns : erased.FlatTurns) (first : Walked) (old new : Unfolding) (r : Walked) : Type 0 where
   pub steps : Bindings
   pub grown : steps_of new ≡ steps_of old ++ steps
-  pub unfolds : (lo n : ℕ) (bs : Bindings) → first.at ≡ 1 + lo + pattern_numbers (pattern_of l.pat) + numbers (term_of l.first) → Unfolds (told c) (defined c) sc (1 + lo + pattern_numbers (pattern_of l.pat)) (term_of l.first) n bs (known_of first.known) old.next → Unfolds (told c) (defined c) sc lo (Loop l.mark l.sizes.now (pattern_of l.pat) (term_of l.first) turns (term_of l.body)) n (bs ++ steps) (known_of r.known) new.next
+  pub unfolds : (lo n : ℕ) (bs : Bindings) → inside ≡ lo + 1 → first.at ≡ 1 + lo + pattern_numbers (pattern_of l.pat) + numbers (term_of l.first) → Unfolds (told c) (defined c) sc (1 + lo + pattern_numbers (pattern_of l.pat)) (term_of l.first) n bs (known_of first.known) old.next → Unfolds (told c) (defined c) sc lo (Loop l.mark l.sizes.now (pattern_of l.pat) (term_of l.first) turns (term_of l.body)) n (bs ++ steps) (known_of r.known) new.next
   pub behind : r.at ≡ first.at + Rattle.fut_flat.specs.Numbers.turn_numbers turns + numbers (term_of l.body)
 
 -- there is no way on in it, wherever its first value was unfolded
-abbrev pub Loop_stuck : Context → Scope → LoopTree → erased.FlatTurns → Walked → Unfolding → Type 0
-Loop_stuck c sc l turns first old =
-    (lo n : ℕ) (bs : Bindings) → first.at ≡ 1 + lo + pattern_numbers (pattern_of l.pat) + numbers (term_of l.first) → Unfolds (told c) (defined c) sc (1 + lo + pattern_numbers (pattern_of l.pat)) (term_of l.first) n bs (known_of first.known) old.next
+abbrev pub Loop_stuck : Context → Scope → ℕ → LoopTree → erased.FlatTurns → Walked → Unfolding → Type 0
+Loop_stuck c sc inside l turns first old =
+    (lo n : ℕ) (bs : Bindings) → inside ≡ lo + 1 → first.at ≡ 1 + lo + pattern_numbers (pattern_of l.pat) + numbers (term_of l.first) → Unfolds (told c) (defined c) sc (1 + lo + pattern_numbers (pattern_of l.pat)) (term_of l.first) n bs (known_of first.known) old.next
     → Stuck (told c) (defined c) sc lo (Loop l.mark l.sizes.now (pattern_of l.pat) (term_of l.first) turns (term_of l.body))
 
 -- none where the first value is more than one component, and a turn gives data of another shape
-pub data Looped_to (c : Context) (sc : Scope) (l : LoopTree) (turns : erased.FlatTurns) (first : Walked) (old new : Unfolding) : Result (Option Walked) Refusal → Type 0 where
-  looped_to : {r : Walked} → Looped c sc l turns first old new r → Looped_to c sc l turns first old new (Ok (Some r))
-  turns_differ : (bs : Bindings) → is_component (known_of first.known) ≡ false → steps_of new ≡ steps_of old ++ bs → Looped_to c sc l turns first old new (Ok None)
-  not_looped : {r : Refusal} → Refused (Loop_stuck c sc l turns first old) r → Looped_to c sc l turns first old new (Err r)
+pub data Looped_to (c : Context) (sc : Scope) (inside : ℕ) (l : LoopTree) (turns : erased.FlatTurns) (first : Walked) (old new : Unfolding) : Result (Option Walked) Refusal → Type 0 where
+  looped_to : {r : Walked} → Looped c sc inside l turns first old new r → Looped_to c sc inside l turns first old new (Ok (Some r))
+  turns_differ : (bs : Bindings) → is_component (known_of first.known) ≡ false → steps_of new ≡ steps_of old ++ bs → Looped_to c sc inside l turns first old new (Ok None)
+  not_looped : {r : Refusal} → Refused (Loop_stuck c sc inside l turns first old) r → Looped_to c sc inside l turns first old new (Err r)
 
 -- the first try: none where it has to be packed, and then as many steps and names stand as before
-pub data Tried_to (c : Context) (sc : Scope) (l : LoopTree) (turns : erased.FlatTurns) (first : Walked) (old new : Unfolding) : Result (Option Walked) Refusal → Type 0 where
-  tried_to : {r : Walked} → Looped c sc l turns first old new r → Tried_to c sc l turns first old new (Ok (Some r))
-  has_to_pack : steps_of new ≡ steps_of old → new.next ≡ old.next → Tried_to c sc l turns first old new (Ok None)
-  not_tried : {r : Refusal} → Refused (Loop_stuck c sc l turns first old) r → Tried_to c sc l turns first old new (Err r)
+pub data Tried_to (c : Context) (sc : Scope) (inside : ℕ) (l : LoopTree) (turns : erased.FlatTurns) (first : Walked) (old new : Unfolding) : Result (Option Walked) Refusal → Type 0 where
+  tried_to : {r : Walked} → Looped c sc inside l turns first old new r → Tried_to c sc inside l turns first old new (Ok (Some r))
+  has_to_pack : steps_of new ≡ steps_of old → new.next ≡ old.next → Tried_to c sc inside l turns first old new (Ok None)
+  not_tried : {r : Refusal} → Refused (Loop_stuck c sc inside l turns first old) r → Tried_to c sc inside l turns first old new (Err r)
 
 -- why a condition is no block in the names of a pattern
-pub data No_truth (c : Context) (sc : Scope) (p : FlatPattern) (lo : ℕ) (t : FlatTerm) (s : Known) : Type 0 where
-  no_names_of_value : Not_bound p s → No_truth c sc p lo t s
-  stuck_truth : {inner : Scope} → Binds_to p s sc inner → Stuck (told c) (defined c) inner lo t → No_truth c sc p lo t s
-  other_truth : {inner : Scope} {n n' : ℕ} {bs : Bindings} {s' : Known} → Binds_to p s sc inner → Unfolds (told c) (defined c) inner lo t n bs s' n' → No_scalar s' → No_truth c sc p lo t s
+pub data No_truth (c : Context) (sc : Scope) (at : ℕ) (p : FlatPattern) (lo : ℕ) (t : FlatTerm) (s : Known) : Type 0 where
+  no_names_of_value : Not_bound p s → No_truth c sc at p lo t s
+  stuck_truth : {inner : Scope} → Binds_to (told c).sizes at p s sc inner → Stuck (told c) (defined c) inner lo t → No_truth c sc at p lo t s
+  other_truth : {inner : Scope} {n n' : ℕ} {bs : Bindings} {s' : Known} → Binds_to (told c).sizes at p s sc inner → Unfolds (told c) (defined c) inner lo t n bs s' n' → No_scalar s' → No_truth c sc at p lo t s
 
 -- a condition as a block of its own, in the names of a pattern
-pub data Tested_to (c : Context) (sc : Scope) (p : FlatPattern) (lo : ℕ) (t : FlatTerm) (s : Known) (old new : Unfolding) : Result Branch Refusal → Type 0 where
-  tested_to : {r : Branch} {inner : Scope} {k : ℕ} {u : Atom} (es cs : Bindings) → steps_of new ≡ steps_of old → Binds p s sc old.next es inner k → Unfolds (told c) (defined c) inner lo t k cs (Scalar_known u) new.next → body_of r.block.now ≡ plain.lets (es ++ cs) (u ∷ []) → r.at ≡ lo + numbers t → Tested_to c sc p lo t s old new (Ok r)
-  not_tested : {r : Refusal} → Refused (No_truth c sc p lo t s) r → Tested_to c sc p lo t s old new (Err r)
+pub data Tested_to (c : Context) (sc : Scope) (at : ℕ) (p : FlatPattern) (lo : ℕ) (t : FlatTerm) (s : Known) (old new : Unfolding) : Result Branch Refusal → Type 0 where
+  tested_to : {r : Branch} {inner : Scope} {k : ℕ} {u : Atom} (es cs : Bindings) → steps_of new ≡ steps_of old → Binds (told c).sizes at p s sc old.next es inner k → Unfolds (told c) (defined c) inner lo t k cs (Scalar_known u) new.next → body_of r.block.now ≡ plain.lets (es ++ cs) (u ∷ []) → r.at ≡ lo + numbers t → Tested_to c sc at p lo t s old new (Ok r)
+  not_tested : {r : Refusal} → Refused (No_truth c sc at p lo t s) r → Tested_to c sc at p lo t s old new (Err r)
 
 -- ---- rows of lets
 

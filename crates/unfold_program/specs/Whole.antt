@@ -1,7 +1,6 @@
 -- What the calls for whole programs answer. Where one is lost, unfolding is stuck; want of memory says nothing.
 use Rattle.std.specs.Prelude.{◌≡◌, ℕ, zero, suc, ◌+◌, ◌++◌, List, [], ◌∷◌, map, length, Bool, true, false, Result, Ok, Err, Some, None}
 use Rattle.fut_scalar.specs.declared.place.BindId.{BindId}
-use Rattle.fut_scalar.specs.declared.scalar.IntType.{IntType}
 use Rattle.fut_scalar.specs.declared.sizes.DataType.{DataType}
 use Rattle.fut_flat.specs.Erased.{FlatTerm}
 use Rattle.fut_flat.specs.Numbers.{numbers}
@@ -20,15 +19,15 @@ use Rattle.unfold.specs.declared.known.Known.{Known as Held_known}
 use Rattle.unfold_parts.specs.Layouts.{shape_of}
 use Rattle.unfold_parts.specs.Refused.{Refused}
 use Rattle.unfold_parts.specs.States.{steps_of}
-use Rattle.unfold_parts.specs.Tables.{integer_at}
 use Rattle.unfold_parts.specs.declared.refusal.Refusal.{Refusal}
 use Rattle.unfold_parts.specs.declared.refusal.Refusal.TheVariants.{Memory}
 use Rattle.unfold_parts.specs.declared.steps.Unfolding.{Unfolding}
+use Rattle.unfold_parts.specs.declared.told.Told.{Told as Held_told}
 use Rattle.unfold_program.specs.declared.program.Given.{Given}
 use Rattle.unfold_program.specs.declared.program.Made.{Made}
 use Rattle.unfold_program.specs.declared.walked.Context.{Context}
 use Rattle.unfold_program.specs.Answers.{All_applied, defined, told}
-use Rattle.unfold_parts.specs.Unsized.{Applies_all, Definitions_stuck, Definitions_unfold, Program_stuck, Program_unfolds, Stuck, Stuck_runs, Unfolds}
+use Rattle.unfold_parts.specs.Told.{Applies_all, Definitions_stuck, Definitions_unfold, Program_stuck, Program_unfolds, Stuck, Stuck_runs, Unfolds}
 
 -- so many scalars
 abbrev pub scalars : ℕ → Shapes
@@ -47,14 +46,14 @@ pub data Given_to (count n next : ℕ) : Result Given Refusal → Type 0 where
 
 -- one more definition, which is passed over where it is not reached
 pub data Defined_to (b : BindId) (e : FlatTerm) (reached : Bool) (before : Made) (old new : Unfolding) : Result Made Refusal → Type 0 where
-  passed_over : {r : Made} → reached ≡ false → steps_of new ≡ steps_of old → new.next ≡ old.next → r.context.types.now ≡ before.context.types.now → defined r.context ≡ defined before.context → r.at ≡ before.at + (1 + numbers e) → Defined_to b e reached before old new (Ok r)
-  defined_to : {r : Made} {s : Known} (bs : Bindings) → reached ≡ true → steps_of new ≡ steps_of old ++ bs → Unfolds (told before.context) (defined before.context) nothing_seen (1 + before.at) e old.next bs s new.next → r.context.types.now ≡ before.context.types.now → defined r.context ≡ (b.0, s) ∷ defined before.context → r.at ≡ before.at + (1 + numbers e) → Defined_to b e reached before old new (Ok r)
+  passed_over : {r : Made} → reached ≡ false → steps_of new ≡ steps_of old → new.next ≡ old.next → told r.context ≡ told before.context → defined r.context ≡ defined before.context → r.at ≡ before.at + (1 + numbers e) → Defined_to b e reached before old new (Ok r)
+  defined_to : {r : Made} {s : Known} (bs : Bindings) → reached ≡ true → steps_of new ≡ steps_of old ++ bs → Unfolds (told before.context) (defined before.context) nothing_seen (1 + before.at) e old.next bs s new.next → told r.context ≡ told before.context → defined r.context ≡ (b.0, s) ∷ defined before.context → r.at ≡ before.at + (1 + numbers e) → Defined_to b e reached before old new (Ok r)
   not_defined : {r : Refusal} → Refused ((reached ≡ true) × Stuck (told before.context) (defined before.context) nothing_seen (1 + before.at) e) r → Defined_to b e reached before old new (Err r)
 
 -- the definitions that an entry reaches
-pub data Definitions_to (types : List IntType) (entry : ℕ) (ds : List FlatTop) (old new : Unfolding) : Result Made Refusal → Type 0 where
-  definitions_to : {r : Made} (bs : Bindings) → steps_of new ≡ steps_of old ++ bs → r.context.types.now ≡ types → Definitions_unfold (integer_at types) entry [] ds old.next bs (defined r.context) new.next → Definitions_to types entry ds old new (Ok r)
-  no_definitions : {r : Refusal} → Refused (Definitions_stuck (integer_at types) entry [] ds) r → Definitions_to types entry ds old new (Err r)
+pub data Definitions_to (T : Held_told) (entry : ℕ) (ds : List FlatTop) (old new : Unfolding) : Result Made Refusal → Type 0 where
+  definitions_to : {r : Made} (bs : Bindings) → steps_of new ≡ steps_of old ++ bs → told r.context ≡ T → Definitions_unfold T entry [] ds old.next bs (defined r.context) new.next → Definitions_to T entry ds old new (Ok r)
+  no_definitions : {r : Refusal} → Refused (Definitions_stuck T entry [] ds) r → Definitions_to T entry ds old new (Err r)
 
 -- all steps so far as a program, whose result this is
 pub data Finished (params : List ℕ) (types : List DataType) (s : Known) (before : Unfolding) : Result Program Refusal → Type 0 where
@@ -74,6 +73,6 @@ pub data Entry_to (c : Context) (entry : ℕ) (g : Given) (types : List DataType
 
 -- The public answer, for an entry with scalars of these types: the program that it unfolds to, whose result has some shape. It
 -- is lost only where unfolding the program is stuck.
-pub data Unfolds_to (integer_at : ℕ → IntType) (ds : List FlatTop) (entry : ℕ) (types : List DataType) : Result Program Refusal → Type 0 where
-  unfolds_to : {p : Program} (h : Shape) → Program_unfolds integer_at ds entry (scalars (length types)) h p → p.types.now ≡ types → Unfolds_to integer_at ds entry types (Ok p)
-  no_program : {r : Refusal} → Refused (Program_stuck integer_at ds entry (scalars (length types))) r → Unfolds_to integer_at ds entry types (Err r)
+pub data Unfolds_to (T : Held_told) (ds : List FlatTop) (entry : ℕ) (types : List DataType) : Result Program Refusal → Type 0 where
+  unfolds_to : {p : Program} (h : Shape) → Program_unfolds T ds entry (scalars (length types)) h p → p.types.now ≡ types → Unfolds_to T ds entry types (Ok p)
+  no_program : {r : Refusal} → Refused (Program_stuck T ds entry (scalars (length types))) r → Unfolds_to T ds entry types (Err r)

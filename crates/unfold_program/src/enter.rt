@@ -10,6 +10,7 @@ use crate::walked::{Entered, Walked, WalkedScalar};
 use fut_blocks::Atom;
 use fut_flat::Pat;
 use fut_scalar::BindId;
+use told_rows::Sizes;
 use unfold::{Known, KnownForm, Scope};
 use unfold_parts::{Refusal, Unfolding, bind, bound, lay};
 
@@ -54,40 +55,53 @@ fn named<'a>(name: u32) -> Known<'a>
     }
 }
 
-/// The names of a counted turn, whose number has the name `name`.
+/// The names of a counted turn, whose number has the name `name`. The node of the loop's pattern has the number `at`, that of
+/// the index the number `counter`.
 #[inline(never)]
 pub fn bind_turn<'a>(
+    sizes: Option<&'a Sizes<'a>>,
+    at: u32,
     pat: &'a Pat<'a>,
+    counter: u32,
     index: BindId,
     name: u32,
     scope: Scope<'a>,
     known: &Known<'a>,
     state: &mut Unfolding<'a>,
 ) -> Result<Scope<'a>, Refusal>
-    ensures { Turn_bound_to (pattern_of pat.now) index name (scope_of scope.entry) (known_of known.now) state.old state.new result }
+    ensures { Turn_bound_to sizes.entry at (pattern_of pat.now) counter index name (scope_of scope.entry) (known_of known.now) state.old state.new result }
 {
-    let inside = match bind(state, pat, *known, scope) {
+    let inside = match bind(state, sizes, at, pat, *known, scope) {
         Ok(inside) => inside,
         Err(refusal) => return Err(refusal),
     };
-    bound(state.bump, index, named(name), inside)
+    let turn = named(name);
+    let entered = match told_rows::enter(sizes, counter, &turn, inside, state.bump) {
+        Ok(entered) => entered,
+        Err(_) => return Err(Refusal::Memory),
+    };
+    bound(state.bump, index, turn, entered)
 }
 
-/// The names of a turn for a row, which has the name `name`.
+/// The names of a turn for a row, which has the name `name`. The node of the loop's pattern has the number `at`, that of the
+/// row's the number `row_at`.
 #[inline(never)]
 pub fn bind_row<'a>(
+    sizes: Option<&'a Sizes<'a>>,
+    at: u32,
     pat: &'a Pat<'a>,
+    row_at: u32,
     row: &'a Pat<'a>,
     name: u32,
     scope: Scope<'a>,
     known: &Known<'a>,
     state: &mut Unfolding<'a>,
 ) -> Result<Scope<'a>, Refusal>
-    ensures { Row_bound_to (pattern_of pat.now) (pattern_of row.now) name (scope_of scope.entry) (known_of known.now) state.old state.new result }
+    ensures { Row_bound_to sizes.entry at (pattern_of pat.now) row_at (pattern_of row.now) name (scope_of scope.entry) (known_of known.now) state.old state.new result }
 {
-    let inside = match bind(state, pat, *known, scope) {
+    let inside = match bind(state, sizes, at, pat, *known, scope) {
         Ok(inside) => inside,
         Err(refusal) => return Err(refusal),
     };
-    bind(state, row, named(name), inside)
+    bind(state, sizes, row_at, row, named(name), inside)
 }

@@ -1,5 +1,5 @@
 // What does not walk on: steps and blocks that give data, operations, uses and arguments.
-ghost use Rattle.std.specs.Prelude.{◌≡◌, ◌≤◌, IfErr, length, true};
+ghost use Rattle.std.specs.Prelude.{◌≡◌, ◌≤◌, IfErr, IfOk, length, true};
 ghost use Rattle.fut_blocks.specs.Plain.{For, If, Over, While, action_of, body_of};
 ghost use Rattle.fut_blocks.specs.declared.block.Atom.TheVariants as atom;
 ghost use Rattle.fut_flat.specs.Erased.{operation_of};
@@ -9,16 +9,17 @@ ghost use Rattle.unfold.specs.Knowns.{Scalar_known};
 ghost use Rattle.unfold_parts.specs.Answers.{Cut};
 ghost use Rattle.unfold_parts.specs.declared.refusal.Refusal.TheVariants as refusal;
 ghost use Rattle.unfold_parts.specs.States.{steps_of};
-ghost use Rattle.unfold_parts.specs.Tables.{Kept, tops_of};
-ghost use Rattle.unfold_program.specs.Answers.{Argued, Asked, Closed_to, Operated_to, Packed_closed, Packed_walk, Scalar_closed, Stepped_to, Use_known, Walked_to, agreed, is_component, written};
+ghost use Rattle.unfold_parts.specs.Tables.{Kept};
+ghost use Rattle.unfold_program.specs.Answers.{Argued, Asked, Closed_to, Operated_to, Packed_closed, Packed_walk, Scalar_closed, Stepped_to, Use_known, Walked_to, agreed, is_component, node_of, written};
 
-use crate::walked::{Branch, Entered, MOST_GIVEN, Parts, Shapes, Walked, WalkedScalar};
-use flat_numbers::after_exp;
+use crate::walked::{Branch, Context, Entered, MOST_GIVEN, Parts, Shapes, Walked, WalkedScalar};
+use flat_numbers::{after_exp, after_patterns};
 use fut_blocks::{Act, Atom, Step};
 use fut_flat::{Act as Operation, Exp, Ref};
-use fut_scalar::{IntType, Place, Scalar};
+use fut_scalar::{Place, Scalar};
+use told_rows::Sizes;
 use unfold::{Function, Known, KnownForm, Scope};
-use unfold_parts::{Refusal, Tops, Unfolding, bind, known_use, lay, operate, pack};
+use unfold_parts::{Refusal, Told, Unfolding, bind, lay, operate, pack, used};
 
 // One more step, which gives data of the shape of `like` under new names. The node behind it has the number `at`. It always
 // gives something.
@@ -326,19 +327,21 @@ pub fn put_known<'a>(
     }
 }
 
-/// An operation on its parts. The type `ty` is that of an integer without a suffix.
+/// An operation on its parts, under the names of a scope, at the node of the number `at`.
 #[inline(never)]
 pub fn operated<'a>(
     state: &mut Unfolding<'a>,
-    ty: IntType,
+    told: Told<'a>,
+    scope: Scope<'a>,
+    at: u32,
     act: &Operation<'a>,
     mark: Place,
     parts: Parts<'a>,
     walked: &mut Walked<'a>,
 ) -> Result<(), Refusal>
-    ensures { Operated_to ty (operation_of act.now) mark parts.entry state.old state.new (written result walked.new) }
+    ensures { Operated_to told.entry (scope_of scope.entry) at (operation_of act.now) mark parts.entry state.old state.new (written result walked.new) }
 {
-    match operate(state, ty, act, mark, parts.knowns) {
+    match operate(state, told, scope, at, act, mark, parts.knowns) {
         Ok(known) => {
             *walked = Walked {
                 known,
@@ -352,19 +355,40 @@ pub fn operated<'a>(
 
 /// What is known of a use, whose node has the number `at`.
 #[inline(never)]
-pub fn used<'a>(
-    tops: &Tops<'a>,
+pub fn use_known<'a>(
+    state: &mut Unfolding<'a>,
+    context: &Context<'a>,
     scope: Scope<'a>,
     reference: Ref,
     at: u32,
     exp: &Exp<'a>,
     walked: &mut Walked<'a>,
 ) -> Result<(), Refusal>
-    requires kept { Kept tops.now }
-    ensures { Use_known (tops_of tops.now) (scope_of scope.entry) reference at exp.now (written result walked.new) }
+    requires kept { Kept context.now.tops }
+    ensures { Use_known context.now (scope_of scope.entry) reference at exp.now state.old state.new (written result walked.new) }
 {
-    match after_exp(at, exp) {
-        Ok(next) => put(known_use(tops, scope, reference, exp.place), next, walked),
+    let next = match after_exp(at, exp) {
+        Ok(next) => next,
+        Err(_) => return Err(Refusal::Memory),
+    };
+    let known = used(
+        state,
+        context.told.sizes,
+        &context.tops,
+        scope,
+        reference,
+        exp.place,
+    );
+    put(known, next, walked)
+}
+
+// The node of the first parameter that is left.
+fn first_node(lambda: &Function<'_>) -> Result<u32, Refusal>
+    ensures ok { IfOk result (λ at. at ≡ node_of lambda.now) }
+    ensures err { IfErr result (λ r. r ≡ refusal.Memory) }
+{
+    match after_patterns(0, lambda.parameters) {
+        Ok(count) => Ok(lambda.first.saturating_sub(count)),
         Err(_) => Err(Refusal::Memory),
     }
 }
@@ -373,18 +397,23 @@ pub fn used<'a>(
 #[inline(never)]
 pub fn with_argument<'a>(
     state: &mut Unfolding<'a>,
+    sizes: Option<&'a Sizes<'a>>,
     lambda: &Function<'a>,
     argument: &Known<'a>,
 ) -> Result<Scope<'a>, Refusal>
-    ensures { Argued lambda.now (known_of argument.now) state.old state.new result }
+    ensures { Argued sizes.entry lambda.now (known_of argument.now) state.old state.new result }
 {
     let params = lambda.parameters;
     if params.len() == 0 {
         return Err(Refusal::Lost);
     }
+    let at = match first_node(lambda) {
+        Ok(at) => at,
+        Err(refusal) => return Err(refusal),
+    };
     let scope = Scope {
         names: lambda.names,
         entered: lambda.entered,
     };
-    bind(state, &params[0], *argument, scope)
+    bind(state, sizes, at, &params[0], *argument, scope)
 }

@@ -13,4 +13,4 @@ mod walk;
 mod walked;
 
 pub use program::unfold;
-pub use unfold_parts::Refusal;
+pub use unfold_parts::{Refusal, Told};

@@ -5,21 +5,21 @@ ghost use Rattle.fut_meaning.specs.Flats.{flat_tops, named_terms};
 ghost use Rattle.unfold_reach.specs.Reach.{Reached, named_term};
 ghost use Rattle.unfold.specs.Held.{known_of};
 ghost use Rattle.unfold_parts.specs.States.{steps_of};
-ghost use Rattle.unfold_parts.specs.Tables.{Kept, integer_at};
+ghost use Rattle.unfold_parts.specs.Tables.{Kept};
 ghost use Rattle.unfold_parts.specs.declared.refusal.Refusal.TheVariants as refusal;
 ghost use Rattle.unfold_program.specs.Answers.{defined};
 ghost use Rattle.unfold_program.specs.Whole.{Are_scalars, Defined_to, Definitions_to, Entry_to, Finished, Given_to, Unfolds_to};
 
 use crate::give::unwalked;
 use crate::walk::{apply_all, walk};
-use crate::walked::{Context, Setting};
+use crate::walked::Context;
 use bumpalo::Bump;
 use flat_numbers::{after, after_exp};
 use fut_blocks::{Atom, Program};
 use fut_flat::{Definition, Flat};
-use fut_scalar::{BindId, DataType, IntType, Scalar};
+use fut_scalar::{BindId, DataType, Scalar};
 use unfold::{Known, KnownForm};
-use unfold_parts::{Refusal, Tops, Unfolding, lay, nothing};
+use unfold_parts::{Refusal, Told, Tops, Unfolding, lay, nothing};
 use unfold_reach::{above, reached};
 
 /// What is known of some definitions, and the number of the next one.
@@ -37,7 +37,8 @@ struct Given<'a> {
 }
 
 /// The blocks of a program from an entry on, whose parameters are scalars of the types `types`. An integer without a suffix
-/// has the type that `integer_types` has for the number of its node, and `i32` where it has none.
+/// has the type that is told for the number of its node, and `i32` where there is none. Where a sizing is told, rows that are
+/// missing have its sizes, a size is worth what its name is, and `:>` tests sizes.
 ///
 /// # Errors
 ///
@@ -45,12 +46,12 @@ struct Given<'a> {
 /// - `Memory`: no memory or no name is left, or the program has more nodes or is deeper than a measured one.
 pub fn unfold<'a>(
     bump: &'a Bump,
-    integer_types: &'a [IntType],
+    told: Told<'a>,
     flat: &Flat<'a>,
     entry: BindId,
     types: &'a [DataType],
 ) -> Result<Program<'a>, Refusal>
-    ensures { Unfolds_to (integer_at integer_types.now) (flat_tops 0 (named_terms flat.now)) entry.0 types.now result }
+    ensures { Unfolds_to told.entry (flat_tops 0 (named_terms flat.now)) entry.0 types.now result }
 {
     let mut state = Unfolding {
         bump,
@@ -58,12 +59,12 @@ pub fn unfold<'a>(
         steps: Vec::new(bump),
         packing: Vec::new(bump),
     };
-    unfold_from(integer_types, flat, entry, types, &mut state)
+    unfold_from(told, flat, entry, types, &mut state)
 }
 
 // The same, from no steps and no names on.
 fn unfold_from<'a>(
-    integer_types: &'a [IntType],
+    told: Told<'a>,
     flat: &Flat<'a>,
     entry: BindId,
     types: &'a [DataType],
@@ -71,7 +72,7 @@ fn unfold_from<'a>(
 ) -> Result<Program<'a>, Refusal>
     requires steps { steps_of state.old ≡ [] }
     requires names { state.old.next ≡ 0 }
-    ensures { Unfolds_to (integer_at integer_types.now) (flat_tops 0 (named_terms flat.now)) entry.0 types.now result }
+    ensures { Unfolds_to told.entry (flat_tops 0 (named_terms flat.now)) entry.0 types.now result }
 {
     let given = match parameters(types.len(), state) {
         Ok(given) => given,
@@ -82,13 +83,9 @@ fn unfold_from<'a>(
         Ok(flags) => flags,
         Err(_) => return Err(Refusal::Memory),
     };
-    let tops = match Box::new(state.bump, Tops::new(state.bump)) {
-        Ok(tops) => tops,
-        Err(_) => return Err(Refusal::Memory),
-    };
     let context = Context {
-        tops,
-        types: integer_types,
+        tops: Tops::new(state.bump),
+        told,
     };
     match unfold_definitions(context, entry, flags, flat.definitions, state) {
         Ok(made) => unfold_entry(&made.context, entry, given, types, state),
@@ -141,9 +138,9 @@ fn unfold_definition<'a>(
     definition: &Definition<'a>,
     state: &mut Unfolding<'a>,
 ) -> Result<Made<'a>, Refusal>
-    requires kept { Kept made.context.tops.value }
+    requires kept { Kept made.context.tops }
     ensures defined { Defined_to definition.now.bind (term_of definition.now.value.now) reached made.entry state.old state.new result }
-    ensures kept { IfOk result (λ r. Kept r.context.tops.value) }
+    ensures kept { IfOk result (λ r. Kept r.context.tops) }
 {
     let Made { context, at } = made;
     let first = match after(at, 1) {
@@ -157,27 +154,26 @@ fn unfold_definition<'a>(
         };
         return Ok(Made { context, at: next });
     }
-    let setting = Setting {
-        context: &context,
-        level: 0,
-        scope: nothing(),
-    };
     let mut r = unwalked();
-    match walk(&setting, first, definition.value, state, &mut r) {
+    match walk(
+        &context,
+        0,
+        nothing(),
+        first,
+        definition.value,
+        state,
+        &mut r,
+    ) {
         Ok(()) => (),
         Err(refusal) => return Err(refusal),
     }
-    let Context { tops, types } = context;
-    let tops = match Box::into_inner(tops).with(definition.bind, r.known) {
+    let Context { tops, told } = context;
+    let tops = match tops.with(definition.bind, r.known) {
         Ok(tops) => tops,
         Err(refusal) => return Err(refusal),
     };
-    let tops = match Box::new(state.bump, tops) {
-        Ok(tops) => tops,
-        Err(_) => return Err(Refusal::Memory),
-    };
     Ok(Made {
-        context: Context { tops, types },
+        context: Context { tops, told },
         at: r.at,
     })
 }
@@ -190,12 +186,12 @@ fn unfold_definitions<'a>(
     definitions: &[Definition<'a>],
     state: &mut Unfolding<'a>,
 ) -> Result<Made<'a>, Refusal>
-    requires kept { Kept context.tops.value }
+    requires kept { Kept context.tops }
     requires none { defined context ≡ [] }
     requires flags { Reached entry.0 definitions.now flags.now }
     requires length { length flags.now ≡ length definitions.now }
-    ensures defined { Definitions_to context.entry.types.now entry.0 (flat_tops 0 (map named_term definitions.now)) state.old state.new result }
-    ensures kept { IfOk result (λ r. Kept r.context.tops.value) }
+    ensures defined { Definitions_to context.entry.told entry.0 (flat_tops 0 (map named_term definitions.now)) state.old state.new result }
+    ensures kept { IfOk result (λ r. Kept r.context.tops) }
 {
     let mut made = Made { context, at: 0 };
     let mut at = 0;
@@ -217,7 +213,7 @@ fn unfold_entry<'a>(
     types: &'a [DataType],
     state: &mut Unfolding<'a>,
 ) -> Result<Program<'a>, Refusal>
-    requires kept { Kept context.now.tops.value }
+    requires kept { Kept context.now.tops }
     ensures { Entry_to context.now entry.0 given.entry types.now state.old result }
 {
     let function = match context.tops.of(entry) {

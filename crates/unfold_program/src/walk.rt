@@ -15,12 +15,10 @@ use crate::enter::{bind_row, bind_turn, enter, scalar_of};
 use crate::function::function_known;
 use crate::give::{
     again, asked, close, close_scalar, give_choice, give_counted, give_rows, give_while, operated,
-    packed, put, put_known, unwalked, used, with_argument,
+    packed, put, put_known, unwalked, use_known, with_argument,
 };
 use crate::peel::stripped;
-use crate::walked::{
-    Branch, Context, MOST_DEPTH, Parts, Row, Setting, Shapes, Walked, WalkedScalar,
-};
+use crate::walked::{Branch, Context, MOST_DEPTH, Parts, Row, Shapes, Walked, WalkedScalar};
 use bumpalo::Bump;
 use bumpalo::collections::into_bump_slice;
 use flat_numbers::{after, after_exp, after_pattern, after_patterns, own_numbers_of};
@@ -28,32 +26,39 @@ use fut_flat::{Act as Operation, Exp, Form, Let, Loop, LoopForm, Pat, Primitive}
 use fut_scalar::{BindId, Place};
 use unfold::{Known, KnownForm, Scope};
 use unfold_parts::{
-    Applied as Step, Refusal, Unfolding, apply_primitive, begin_job, bind, end_job, literal_type_at,
+    Applied as Step, Refusal, Unfolding, apply_primitive, begin_job, bind, end_job,
 };
 
 /// What is known of the value of an expression, whose node has the number `at`: it is written into `walked`, since a result of
 /// that size would stand several times in the frame of each level.
 #[cycle(walk)]
 pub fn walk<'a>(
-    setting: &Setting<'_, 'a>,
+    context: &Context<'a>,
+    level: u32,
+    scope: Scope<'a>,
     at: u32,
     exp: &'a Exp<'a>,
     state: &mut Unfolding<'a>,
     walked: &mut Walked<'a>,
 ) -> Result<(), Refusal>
-    requires kept { Kept setting.now.context.now.tops.value }
-    ensures { Unfolded setting.now.context.now (scope_of setting.now.scope) at (term_of exp.now) state.old state.new (written result walked.new) }
+    requires kept { Kept context.now.tops }
+    ensures { Unfolded context.now (scope_of scope.entry) at (term_of exp.now) state.old state.new (written result walked.new) }
 {
-    if setting.level >= MOST_DEPTH {
+    if level >= MOST_DEPTH {
         return Err(Refusal::Memory);
     }
     match stripped(at, exp) {
         Ok(peeled) => {
-            let within = Setting {
-                level: setting.level + 1,
-                ..*setting
-            };
-            walk_form(&within, peeled.at, peeled.inside, peeled.exp, state, walked)
+            walk_form(
+                context,
+                level + 1,
+                scope,
+                peeled.at,
+                peeled.inside,
+                peeled.exp,
+                state,
+                walked,
+            )
         }
         Err(refusal) => Err(refusal),
     }
@@ -62,41 +67,38 @@ pub fn walk<'a>(
 // The same within the limit, for an expression without declared types around it. The number behind that of its node is `inside`.
 #[cycle(walk)]
 fn walk_form<'a>(
-    setting: &Setting<'_, 'a>,
+    context: &Context<'a>,
+    level: u32,
+    scope: Scope<'a>,
     at: u32,
     inside: u32,
     exp: &'a Exp<'a>,
     state: &mut Unfolding<'a>,
     walked: &mut Walked<'a>,
 ) -> Result<(), Refusal>
-    requires kept { Kept setting.now.context.now.tops.value }
-    requires level { setting.now.level ≤ 2000 }
+    requires kept { Kept context.now.tops }
+    requires level { level ≤ 2000 }
     requires inside { inside ≡ at + 1 }
-    ensures { Unfolded setting.now.context.now (scope_of setting.now.scope) at (term_of exp.now) state.old state.new (written result walked.new) }
+    ensures { Unfolded context.now (scope_of scope.entry) at (term_of exp.now) state.old state.new (written result walked.new) }
 {
     match &exp.form {
-        Form::Use(reference, _) => {
-            used(
-                &setting.context.tops,
-                setting.scope,
-                *reference,
-                at,
-                exp,
-                walked,
-            )
-        }
+        Form::Use(reference, _) => { use_known(state, context, scope, *reference, at, exp, walked) }
         Form::Strict { act, mark, parts } => {
-            walk_strict(setting, at, act, *mark, *parts, state, walked)
+            walk_strict(context, level, scope, at, act, *mark, *parts, state, walked)
         }
         Form::Lambda(params, body) => {
-            walk_lambda(state.bump, setting.scope, inside, *params, *body, walked)
+            walk_lambda(state.bump, scope, inside, *params, *body, walked)
         }
         Form::Apply(function, argument) => {
-            walk_apply(setting, inside, *function, *argument, state, walked)
+            walk_apply(
+                context, level, scope, inside, *function, *argument, state, walked,
+            )
         }
-        Form::Lets(_, _) => walk_lets(setting, at, exp, state, walked),
-        Form::If(test, yes, no) => walk_if(setting, inside, *test, *yes, *no, state, walked),
-        Form::Loop(whole) => walk_loop(setting, inside, *whole, state, walked),
+        Form::Lets(_, _) => walk_lets(context, level, scope, at, exp, state, walked),
+        Form::If(test, yes, no) => walk_if(
+            context, level, scope, inside, *test, *yes, *no, state, walked,
+        ),
+        Form::Loop(whole) => walk_loop(context, level, scope, inside, *whole, state, walked),
     }
 }
 
@@ -130,7 +132,9 @@ fn walk_lambda<'a>(
 #[cycle(walk)]
 #[inline(never)]
 fn walk_strict<'a>(
-    setting: &Setting<'_, 'a>,
+    context: &Context<'a>,
+    level: u32,
+    scope: Scope<'a>,
     at: u32,
     act: &Operation<'a>,
     mark: Place,
@@ -138,38 +142,39 @@ fn walk_strict<'a>(
     state: &mut Unfolding<'a>,
     walked: &mut Walked<'a>,
 ) -> Result<(), Refusal>
-    requires kept { Kept setting.now.context.now.tops.value }
-    requires level { setting.now.level ≤ 2000 }
-    ensures { Unfolded setting.now.context.now (scope_of setting.now.scope) at (Strict (operation_of act.now) mark (terms (map term_of parts.now))) state.old state.new (written result walked.new) }
+    requires kept { Kept context.now.tops }
+    requires level { level ≤ 2000 }
+    ensures { Unfolded context.now (scope_of scope.entry) at (Strict (operation_of act.now) mark (terms (map term_of parts.now))) state.old state.new (written result walked.new) }
 {
     let first = match after(at, own_numbers_of(act)) {
         Ok(first) => first,
         Err(_) => return Err(Refusal::Memory),
     };
-    let made = match walk_parts(setting, first, parts, state) {
+    let made = match walk_parts(context, level, scope, first, parts, state) {
         Ok(made) => made,
         Err(refusal) => return Err(refusal),
     };
-    let ty = literal_type_at(setting.context.types, at);
-    operated(state, ty, act, mark, made, walked)
+    operated(state, context.told, scope, at, act, mark, made, walked)
 }
 
 #[cycle(walk)]
 fn walk_parts<'a>(
-    setting: &Setting<'_, 'a>,
+    context: &Context<'a>,
+    level: u32,
+    scope: Scope<'a>,
     at: u32,
     exps: &'a [Exp<'a>],
     state: &mut Unfolding<'a>,
 ) -> Result<Parts<'a>, Refusal>
-    requires kept { Kept setting.now.context.now.tops.value }
-    requires level { setting.now.level ≤ 2000 }
-    ensures { All_unfolded setting.now.context.now (scope_of setting.now.scope) at (terms (map term_of exps.now)) state.old state.new result }
+    requires kept { Kept context.now.tops }
+    requires level { level ≤ 2000 }
+    ensures { All_unfolded context.now (scope_of scope.entry) at (terms (map term_of exps.now)) state.old state.new result }
 {
     let mut knowns = Vec::new(state.bump);
     let mut next = at;
     for exp in exps {
         let mut r = unwalked();
-        match walk(setting, next, exp, state, &mut r) {
+        match walk(context, level, scope, next, exp, state, &mut r) {
             Ok(()) => (),
             Err(refusal) => return Err(refusal),
         }
@@ -188,35 +193,30 @@ fn walk_parts<'a>(
 #[cycle(walk)]
 #[inline(never)]
 fn walk_apply<'a>(
-    setting: &Setting<'_, 'a>,
+    context: &Context<'a>,
+    level: u32,
+    scope: Scope<'a>,
     inside: u32,
     function: &'a Exp<'a>,
     argument: &'a Exp<'a>,
     state: &mut Unfolding<'a>,
     walked: &mut Walked<'a>,
 ) -> Result<(), Refusal>
-    requires kept { Kept setting.now.context.now.tops.value }
-    requires level { setting.now.level ≤ 2000 }
-    ensures { Unfolded_inside setting.now.context.now (scope_of setting.now.scope) inside (Apply (term_of function.now) (term_of argument.now)) state.old state.new (written result walked.new) }
+    requires kept { Kept context.now.tops }
+    requires level { level ≤ 2000 }
+    ensures { Unfolded_inside context.now (scope_of scope.entry) inside (Apply (term_of function.now) (term_of argument.now)) state.old state.new (written result walked.new) }
 {
     let mut f = unwalked();
-    match walk(setting, inside, function, state, &mut f) {
+    match walk(context, level, scope, inside, function, state, &mut f) {
         Ok(()) => (),
         Err(refusal) => return Err(refusal),
     }
     let mut e = unwalked();
-    match walk(setting, f.at, argument, state, &mut e) {
+    match walk(context, level, scope, f.at, argument, state, &mut e) {
         Ok(()) => (),
         Err(refusal) => return Err(refusal),
     }
-    match apply(
-        setting.context,
-        setting.level,
-        &f.known,
-        &e.known,
-        state,
-        walked,
-    ) {
+    match apply(context, level, &f.known, &e.known, state, walked) {
         Ok(()) => {
             walked.at = e.at;
             Ok(())
@@ -229,17 +229,19 @@ fn walk_apply<'a>(
 #[cycle(walk)]
 #[inline(never)]
 fn walk_scalar<'a>(
-    setting: &Setting<'_, 'a>,
+    context: &Context<'a>,
+    level: u32,
+    scope: Scope<'a>,
     at: u32,
     exp: &'a Exp<'a>,
     state: &mut Unfolding<'a>,
 ) -> Result<WalkedScalar, Refusal>
-    requires kept { Kept setting.now.context.now.tops.value }
-    requires level { setting.now.level ≤ 2000 }
-    ensures { Scalar_unfolded setting.now.context.now (scope_of setting.now.scope) at (term_of exp.now) state.old state.new result }
+    requires kept { Kept context.now.tops }
+    requires level { level ≤ 2000 }
+    ensures { Scalar_unfolded context.now (scope_of scope.entry) at (term_of exp.now) state.old state.new result }
 {
     let mut walked = unwalked();
-    match walk(setting, at, exp, state, &mut walked) {
+    match walk(context, level, scope, at, exp, state, &mut walked) {
         Ok(()) => scalar_of(&walked),
         Err(refusal) => Err(refusal),
     }
@@ -249,7 +251,9 @@ fn walk_scalar<'a>(
 #[cycle(walk)]
 #[inline(never)]
 fn walk_if<'a>(
-    setting: &Setting<'_, 'a>,
+    context: &Context<'a>,
+    level: u32,
+    scope: Scope<'a>,
     inside: u32,
     test: &'a Exp<'a>,
     yes: &'a Exp<'a>,
@@ -257,18 +261,18 @@ fn walk_if<'a>(
     state: &mut Unfolding<'a>,
     walked: &mut Walked<'a>,
 ) -> Result<(), Refusal>
-    requires kept { Kept setting.now.context.now.tops.value }
-    requires level { setting.now.level ≤ 2000 }
-    ensures { Unfolded_inside setting.now.context.now (scope_of setting.now.scope) inside (If (term_of test.now) (term_of yes.now) (term_of no.now)) state.old state.new (written result walked.new) }
+    requires kept { Kept context.now.tops }
+    requires level { level ≤ 2000 }
+    ensures { Unfolded_inside context.now (scope_of scope.entry) inside (If (term_of test.now) (term_of yes.now) (term_of no.now)) state.old state.new (written result walked.new) }
 {
-    let truth = match walk_scalar(setting, inside, test, state) {
+    let truth = match walk_scalar(context, level, scope, inside, test, state) {
         Ok(truth) => truth,
         Err(refusal) => return Err(refusal),
     };
     let mark = state.mark();
     let next = state.next;
     let packs = state.packs(inside);
-    match walk_branches(setting, &truth, yes, no, packs, state, walked) {
+    match walk_branches(context, level, scope, &truth, yes, no, packs, state, walked) {
         Ok(Shapes::Agree) => return Ok(()),
         Ok(Shapes::Differ) => (),
         Err(refusal) => return Err(refusal),
@@ -277,7 +281,7 @@ fn walk_if<'a>(
         Ok(()) => (),
         Err(refusal) => return Err(refusal),
     }
-    match walk_branches(setting, &truth, yes, no, true, state, walked) {
+    match walk_branches(context, level, scope, &truth, yes, no, true, state, walked) {
         Ok(Shapes::Agree) => Ok(()),
         Ok(Shapes::Differ) => unreachable!(),
         Err(refusal) => Err(refusal),
@@ -287,7 +291,9 @@ fn walk_if<'a>(
 // Both branches, packed or not; `None` where they are not and give data of different shapes.
 #[cycle(walk)]
 fn walk_branches<'a>(
-    setting: &Setting<'_, 'a>,
+    context: &Context<'a>,
+    level: u32,
+    scope: Scope<'a>,
     truth: &WalkedScalar,
     yes: &'a Exp<'a>,
     no: &'a Exp<'a>,
@@ -295,12 +301,12 @@ fn walk_branches<'a>(
     state: &mut Unfolding<'a>,
     walked: &mut Walked<'a>,
 ) -> Result<Shapes, Refusal>
-    requires kept { Kept setting.now.context.now.tops.value }
-    requires level { setting.now.level ≤ 2000 }
-    ensures { Branches_to setting.now.context.now (scope_of setting.now.scope) truth.now (term_of yes.now) (term_of no.now) packs state.old state.new (agreed result walked.new) }
+    requires kept { Kept context.now.tops }
+    requires level { level ≤ 2000 }
+    ensures { Branches_to context.now (scope_of scope.entry) truth.now (term_of yes.now) (term_of no.now) packs state.old state.new (agreed result walked.new) }
 {
     let mark = state.mark();
-    match walk(setting, truth.at, yes, state, walked) {
+    match walk(context, level, scope, truth.at, yes, state, walked) {
         Ok(()) => (),
         Err(refusal) => return Err(refusal),
     }
@@ -310,7 +316,7 @@ fn walk_branches<'a>(
         Ok(None) => return Ok(Shapes::Differ),
         Err(refusal) => return Err(refusal),
     };
-    let b = match walk_block(setting, mark, a.at, no, &like, state) {
+    let b = match walk_block(context, level, scope, mark, a.at, no, &like, state) {
         Ok(Some(b)) => b,
         Ok(None) => return Ok(Shapes::Differ),
         Err(refusal) => return Err(refusal),
@@ -321,20 +327,22 @@ fn walk_branches<'a>(
 // The steps from the mark on and those of an expression as a block, which gives data of the shape of `like`.
 #[cycle(walk)]
 fn walk_block<'a>(
-    setting: &Setting<'_, 'a>,
+    context: &Context<'a>,
+    level: u32,
+    scope: Scope<'a>,
     mark: usize,
     at: u32,
     exp: &'a Exp<'a>,
     like: &Known<'a>,
     state: &mut Unfolding<'a>,
 ) -> Result<Option<Branch<'a>>, Refusal>
-    requires kept { Kept setting.now.context.now.tops.value }
-    requires level { setting.now.level ≤ 2000 }
+    requires kept { Kept context.now.tops }
+    requires level { level ≤ 2000 }
     requires mark { mark ≤ length (steps_of state.old) }
-    ensures { Blocked_to setting.now.context.now (scope_of setting.now.scope) mark at (term_of exp.now) (known_of like.now) state.old state.new result }
+    ensures { Blocked_to context.now (scope_of scope.entry) mark at (term_of exp.now) (known_of like.now) state.old state.new result }
 {
     let mut r = unwalked();
-    match walk(setting, at, exp, state, &mut r) {
+    match walk(context, level, scope, at, exp, state, &mut r) {
         Ok(()) => close(state, mark, like, &r),
         Err(refusal) => Err(refusal),
     }
@@ -344,26 +352,36 @@ fn walk_block<'a>(
 #[cycle(walk)]
 #[inline(never)]
 fn walk_loop<'a>(
-    setting: &Setting<'_, 'a>,
+    context: &Context<'a>,
+    level: u32,
+    scope: Scope<'a>,
     inside: u32,
     whole: &'a Loop<'a>,
     state: &mut Unfolding<'a>,
     walked: &mut Walked<'a>,
 ) -> Result<(), Refusal>
-    requires kept { Kept setting.now.context.now.tops.value }
-    requires level { setting.now.level ≤ 2000 }
-    ensures { Unfolded_inside setting.now.context.now (scope_of setting.now.scope) inside (loop_of whole.now) state.old state.new (written result walked.new) }
+    requires kept { Kept context.now.tops }
+    requires level { level ≤ 2000 }
+    ensures { Unfolded_inside context.now (scope_of scope.entry) inside (loop_of whole.now) state.old state.new (written result walked.new) }
 {
     let value = match after_pattern(inside, &whole.pat) {
         Ok(value) => value,
         Err(_) => return Err(Refusal::Memory),
     };
     let mut first = unwalked();
-    match walk(setting, value, &whole.first, state, &mut first) {
+    match walk(
+        context,
+        level,
+        scope,
+        value,
+        &whole.first,
+        state,
+        &mut first,
+    ) {
         Ok(()) => (),
         Err(refusal) => return Err(refusal),
     }
-    match walk_first(setting, inside, whole, &first, state, walked) {
+    match walk_first(context, level, scope, inside, whole, &first, state, walked) {
         Ok(Shapes::Agree) => return Ok(()),
         Ok(Shapes::Differ) => (),
         Err(refusal) => return Err(refusal),
@@ -372,7 +390,7 @@ fn walk_loop<'a>(
         Ok(()) => (),
         Err(refusal) => return Err(refusal),
     }
-    match walk_turns(setting, whole, &first, state, walked) {
+    match walk_turns(context, level, scope, inside, whole, &first, state, walked) {
         Ok(Shapes::Agree) => Ok(()),
         Ok(Shapes::Differ) => unreachable!(),
         Err(refusal) => Err(refusal),
@@ -382,23 +400,25 @@ fn walk_loop<'a>(
 // The turns with the first value as it is; `None` where it has to be packed.
 #[cycle(walk)]
 fn walk_first<'a>(
-    setting: &Setting<'_, 'a>,
+    context: &Context<'a>,
+    level: u32,
+    scope: Scope<'a>,
     inside: u32,
     whole: &'a Loop<'a>,
     first: &Walked<'a>,
     state: &mut Unfolding<'a>,
     walked: &mut Walked<'a>,
 ) -> Result<Shapes, Refusal>
-    requires kept { Kept setting.now.context.now.tops.value }
-    requires level { setting.now.level ≤ 2000 }
-    ensures { Tried_to setting.now.context.now (scope_of setting.now.scope) whole.now (turns_of whole.now.form) first.now state.old state.new (agreed result walked.new) }
+    requires kept { Kept context.now.tops }
+    requires level { level ≤ 2000 }
+    ensures { Tried_to context.now (scope_of scope.entry) inside whole.now (turns_of whole.now.form) first.now state.old state.new (agreed result walked.new) }
 {
     if state.packs(inside) {
         return Ok(Shapes::Differ);
     }
     let mark = state.mark();
     let next = state.next;
-    match walk_turns(setting, whole, first, state, walked) {
+    match walk_turns(context, level, scope, inside, whole, first, state, walked) {
         Ok(Shapes::Agree) => return Ok(Shapes::Agree),
         Ok(Shapes::Differ) => (),
         Err(refusal) => return Err(refusal),
@@ -412,29 +432,43 @@ fn walk_first<'a>(
 // A turn is unfolded once, on new names, and gives data of the shape of the first value; `None` where it does not.
 #[cycle(walk)]
 fn walk_turns<'a>(
-    setting: &Setting<'_, 'a>,
+    context: &Context<'a>,
+    level: u32,
+    scope: Scope<'a>,
+    inside: u32,
     whole: &'a Loop<'a>,
     first: &Walked<'a>,
     state: &mut Unfolding<'a>,
     walked: &mut Walked<'a>,
 ) -> Result<Shapes, Refusal>
-    requires kept { Kept setting.now.context.now.tops.value }
-    requires level { setting.now.level ≤ 2000 }
-    ensures { Looped_to setting.now.context.now (scope_of setting.now.scope) whole.now (turns_of whole.now.form) first.now state.old state.new (agreed result walked.new) }
+    requires kept { Kept context.now.tops }
+    requires level { level ≤ 2000 }
+    ensures { Looped_to context.now (scope_of scope.entry) inside whole.now (turns_of whole.now.form) first.now state.old state.new (agreed result walked.new) }
 {
     match &whole.form {
         LoopForm::For(index, count) => {
-            walk_for(setting, whole, *index, count, first, state, walked)
+            walk_for(
+                context, level, scope, inside, whole, *index, count, first, state, walked,
+            )
         }
-        LoopForm::ForIn(row, rows) => walk_rows(setting, whole, row, rows, first, state, walked),
-        LoopForm::While(test) => walk_while(setting, whole, test, first, state, walked),
+        LoopForm::ForIn(row, rows) => {
+            walk_rows(
+                context, level, scope, inside, whole, row, rows, first, state, walked,
+            )
+        }
+        LoopForm::While(test) => walk_while(
+            context, level, scope, inside, whole, test, first, state, walked,
+        ),
     }
 }
 
 #[cycle(walk)]
 #[inline(never)]
 fn walk_for<'a>(
-    setting: &Setting<'_, 'a>,
+    context: &Context<'a>,
+    level: u32,
+    scope: Scope<'a>,
+    inside: u32,
     whole: &'a Loop<'a>,
     index: BindId,
     count: &'a Exp<'a>,
@@ -442,15 +476,15 @@ fn walk_for<'a>(
     state: &mut Unfolding<'a>,
     walked: &mut Walked<'a>,
 ) -> Result<Shapes, Refusal>
-    requires kept { Kept setting.now.context.now.tops.value }
-    requires level { setting.now.level ≤ 2000 }
-    ensures { Looped_to setting.now.context.now (scope_of setting.now.scope) whole.now (Counted index (term_of count.now)) first.now state.old state.new (agreed result walked.new) }
+    requires kept { Kept context.now.tops }
+    requires level { level ≤ 2000 }
+    ensures { Looped_to context.now (scope_of scope.entry) inside whole.now (Counted index (term_of count.now)) first.now state.old state.new (agreed result walked.new) }
 {
     let counting = match after(first.at, 1) {
         Ok(counting) => counting,
         Err(_) => return Err(Refusal::Memory),
     };
-    let n = match walk_scalar(setting, counting, count, state) {
+    let n = match walk_scalar(context, level, scope, counting, count, state) {
         Ok(n) => n,
         Err(refusal) => return Err(refusal),
     };
@@ -464,18 +498,29 @@ fn walk_for<'a>(
     };
     let mark = state.mark();
     let scope = match bind_turn(
+        context.told.sizes,
+        inside,
         &whole.pat,
+        first.at,
         index,
         name,
-        setting.scope,
+        scope,
         &entered.known,
         state,
     ) {
         Ok(scope) => scope,
         Err(refusal) => return Err(refusal),
     };
-    let inner = Setting { scope, ..*setting };
-    let body = match walk_block(&inner, mark, n.at, &whole.body, &first.known, state) {
+    let body = match walk_block(
+        context,
+        level,
+        scope,
+        mark,
+        n.at,
+        &whole.body,
+        &first.known,
+        state,
+    ) {
         Ok(Some(body)) => body,
         Ok(None) => return Ok(Shapes::Differ),
         Err(refusal) => return Err(refusal),
@@ -486,7 +531,10 @@ fn walk_for<'a>(
 #[cycle(walk)]
 #[inline(never)]
 fn walk_rows<'a>(
-    setting: &Setting<'_, 'a>,
+    context: &Context<'a>,
+    level: u32,
+    scope: Scope<'a>,
+    inside: u32,
     whole: &'a Loop<'a>,
     row: &'a Pat<'a>,
     rows: &'a Exp<'a>,
@@ -494,15 +542,15 @@ fn walk_rows<'a>(
     state: &mut Unfolding<'a>,
     walked: &mut Walked<'a>,
 ) -> Result<Shapes, Refusal>
-    requires kept { Kept setting.now.context.now.tops.value }
-    requires level { setting.now.level ≤ 2000 }
-    ensures { Looped_to setting.now.context.now (scope_of setting.now.scope) whole.now (Over (pattern_of row.now) (term_of rows.now)) first.now state.old state.new (agreed result walked.new) }
+    requires kept { Kept context.now.tops }
+    requires level { level ≤ 2000 }
+    ensures { Looped_to context.now (scope_of scope.entry) inside whole.now (Over (pattern_of row.now) (term_of rows.now)) first.now state.old state.new (agreed result walked.new) }
 {
     let counting = match after_pattern(first.at, row) {
         Ok(counting) => counting,
         Err(_) => return Err(Refusal::Memory),
     };
-    let r = match walk_scalar(setting, counting, rows, state) {
+    let r = match walk_scalar(context, level, scope, counting, rows, state) {
         Ok(r) => r,
         Err(refusal) => return Err(refusal),
     };
@@ -515,12 +563,30 @@ fn walk_rows<'a>(
         Err(refusal) => return Err(refusal),
     };
     let mark = state.mark();
-    let scope = match bind_row(&whole.pat, row, name, setting.scope, &entered.known, state) {
+    let scope = match bind_row(
+        context.told.sizes,
+        inside,
+        &whole.pat,
+        first.at,
+        row,
+        name,
+        scope,
+        &entered.known,
+        state,
+    ) {
         Ok(scope) => scope,
         Err(refusal) => return Err(refusal),
     };
-    let inner = Setting { scope, ..*setting };
-    let body = match walk_block(&inner, mark, r.at, &whole.body, &first.known, state) {
+    let body = match walk_block(
+        context,
+        level,
+        scope,
+        mark,
+        r.at,
+        &whole.body,
+        &first.known,
+        state,
+    ) {
         Ok(Some(body)) => body,
         Ok(None) => return Ok(Shapes::Differ),
         Err(refusal) => return Err(refusal),
@@ -531,32 +597,60 @@ fn walk_rows<'a>(
 #[cycle(walk)]
 #[inline(never)]
 fn walk_while<'a>(
-    setting: &Setting<'_, 'a>,
+    context: &Context<'a>,
+    level: u32,
+    scope: Scope<'a>,
+    inside: u32,
     whole: &'a Loop<'a>,
     test: &'a Exp<'a>,
     first: &Walked<'a>,
     state: &mut Unfolding<'a>,
     walked: &mut Walked<'a>,
 ) -> Result<Shapes, Refusal>
-    requires kept { Kept setting.now.context.now.tops.value }
-    requires level { setting.now.level ≤ 2000 }
-    ensures { Looped_to setting.now.context.now (scope_of setting.now.scope) whole.now (While (term_of test.now)) first.now state.old state.new (agreed result walked.new) }
+    requires kept { Kept context.now.tops }
+    requires level { level ≤ 2000 }
+    ensures { Looped_to context.now (scope_of scope.entry) inside whole.now (While (term_of test.now)) first.now state.old state.new (agreed result walked.new) }
 {
     let entered = match enter(&first.known, state) {
         Ok(entered) => entered,
         Err(refusal) => return Err(refusal),
     };
     let mark = state.mark();
-    let c = match walk_test(setting, whole, first.at, test, &entered.known, state) {
+    let c = match walk_test(
+        context,
+        level,
+        scope,
+        inside,
+        whole,
+        first.at,
+        test,
+        &entered.known,
+        state,
+    ) {
         Ok(c) => c,
         Err(refusal) => return Err(refusal),
     };
-    let scope = match bind(state, &whole.pat, entered.known, setting.scope) {
+    let scope = match bind(
+        state,
+        context.told.sizes,
+        inside,
+        &whole.pat,
+        entered.known,
+        scope,
+    ) {
         Ok(scope) => scope,
         Err(refusal) => return Err(refusal),
     };
-    let inner = Setting { scope, ..*setting };
-    let body = match walk_block(&inner, mark, c.at, &whole.body, &first.known, state) {
+    let body = match walk_block(
+        context,
+        level,
+        scope,
+        mark,
+        c.at,
+        &whole.body,
+        &first.known,
+        state,
+    ) {
         Ok(Some(body)) => body,
         Ok(None) => return Ok(Shapes::Differ),
         Err(refusal) => return Err(refusal),
@@ -567,24 +661,26 @@ fn walk_while<'a>(
 // The condition of a loop as a block, on what is known of its value in a turn.
 #[cycle(walk)]
 fn walk_test<'a>(
-    setting: &Setting<'_, 'a>,
+    context: &Context<'a>,
+    level: u32,
+    scope: Scope<'a>,
+    inside: u32,
     whole: &'a Loop<'a>,
     at: u32,
     test: &'a Exp<'a>,
     known: &Known<'a>,
     state: &mut Unfolding<'a>,
 ) -> Result<Branch<'a>, Refusal>
-    requires kept { Kept setting.now.context.now.tops.value }
-    requires level { setting.now.level ≤ 2000 }
-    ensures { Tested_to setting.now.context.now (scope_of setting.now.scope) (pattern_of whole.now.pat) at (term_of test.now) (known_of known.now) state.old state.new result }
+    requires kept { Kept context.now.tops }
+    requires level { level ≤ 2000 }
+    ensures { Tested_to context.now (scope_of scope.entry) inside (pattern_of whole.now.pat) at (term_of test.now) (known_of known.now) state.old state.new result }
 {
     let mark = state.mark();
-    let scope = match bind(state, &whole.pat, *known, setting.scope) {
+    let scope = match bind(state, context.told.sizes, inside, &whole.pat, *known, scope) {
         Ok(scope) => scope,
         Err(refusal) => return Err(refusal),
     };
-    let inner = Setting { scope, ..*setting };
-    match walk_scalar(&inner, at, test, state) {
+    match walk_scalar(context, level, scope, at, test, state) {
         Ok(truth) => close_scalar(state, mark, &truth),
         Err(refusal) => Err(refusal),
     }
@@ -594,46 +690,42 @@ fn walk_test<'a>(
 #[cycle(walk)]
 #[inline(never)]
 fn walk_lets<'a>(
-    setting: &Setting<'_, 'a>,
+    context: &Context<'a>,
+    level: u32,
+    scope: Scope<'a>,
     at: u32,
     exp: &'a Exp<'a>,
     state: &mut Unfolding<'a>,
     walked: &mut Walked<'a>,
 ) -> Result<(), Refusal>
-    requires kept { Kept setting.now.context.now.tops.value }
-    requires level { setting.now.level ≤ 2000 }
-    ensures { Unfolded setting.now.context.now (scope_of setting.now.scope) at (term_of exp.now) state.old state.new (written result walked.new) }
+    requires kept { Kept context.now.tops }
+    requires level { level ≤ 2000 }
+    ensures { Unfolded context.now (scope_of scope.entry) at (term_of exp.now) state.old state.new (written result walked.new) }
 {
     let mut rest = exp;
-    let mut row = Row {
-        scope: setting.scope,
-        at,
-    };
+    let mut row = Row { scope: scope, at };
     while let Form::Lets(lets, body) = rest.form {
-        row = match walk_row(setting, row, lets, state) {
+        row = match walk_row(context, level, row, lets, state) {
             Ok(row) => row,
             Err(refusal) => return Err(refusal),
         };
         rest = body;
     }
-    let behind = Setting {
-        scope: row.scope,
-        ..*setting
-    };
-    walk(&behind, row.at, rest, state, walked)
+    walk(context, level, row.scope, row.at, rest, state, walked)
 }
 
 // The `let`s of a row, one after the other.
 #[cycle(walk)]
 fn walk_row<'a>(
-    setting: &Setting<'_, 'a>,
+    context: &Context<'a>,
+    level: u32,
     row: Row<'a>,
     lets: &'a [Let<'a>],
     state: &mut Unfolding<'a>,
 ) -> Result<Row<'a>, Refusal>
-    requires kept { Kept setting.now.context.now.tops.value }
-    requires level { setting.now.level ≤ 2000 }
-    ensures { Row_unfolded setting.now.context.now row.entry (map row_of lets.now) state.old state.new result }
+    requires kept { Kept context.now.tops }
+    requires level { level ≤ 2000 }
+    ensures { Row_unfolded context.now row.entry (map row_of lets.now) state.old state.new result }
 {
     let mut at = row;
     for one in lets {
@@ -645,16 +737,21 @@ fn walk_row<'a>(
             Ok(first) => first,
             Err(_) => return Err(Refusal::Memory),
         };
-        let inner = Setting {
-            scope: at.scope,
-            ..*setting
-        };
         let mut value = unwalked();
-        match walk(&inner, first, &one.value, state, &mut value) {
+        match walk(
+            context, level, at.scope, first, &one.value, state, &mut value,
+        ) {
             Ok(()) => (),
             Err(refusal) => return Err(refusal),
         }
-        let scope = match bind(state, &one.pat, value.known, at.scope) {
+        let scope = match bind(
+            state,
+            context.told.sizes,
+            inside,
+            &one.pat,
+            value.known,
+            at.scope,
+        ) {
             Ok(scope) => scope,
             Err(refusal) => return Err(refusal),
         };
@@ -676,7 +773,7 @@ pub fn apply<'a>(
     state: &mut Unfolding<'a>,
     walked: &mut Walked<'a>,
 ) -> Result<(), Refusal>
-    requires kept { Kept context.now.tops.value }
+    requires kept { Kept context.now.tops }
     requires level { level ≤ 2000 }
     ensures { Applied context.now (known_of function.now) (known_of argument.now) state.old state.new (written result walked.new.known) }
 {
@@ -689,7 +786,7 @@ pub fn apply<'a>(
         }
         _ => return Err(Refusal::Lost),
     };
-    let inner = match with_argument(state, lambda, argument) {
+    let inner = match with_argument(state, context.told.sizes, lambda, argument) {
         Ok(inner) => inner,
         Err(refusal) => return Err(refusal),
     };
@@ -700,12 +797,15 @@ pub fn apply<'a>(
             walked,
         );
     }
-    let setting = Setting {
+    walk(
         context,
         level,
-        scope: inner,
-    };
-    walk(&setting, lambda.first, lambda.body, state, walked)
+        inner,
+        lambda.first,
+        lambda.body,
+        state,
+        walked,
+    )
 }
 
 // A primitive with the arguments that it has, applied to one more.
@@ -721,7 +821,7 @@ fn apply_to<'a>(
     state: &mut Unfolding<'a>,
     walked: &mut Walked<'a>,
 ) -> Result<(), Refusal>
-    requires kept { Kept context.now.tops.value }
+    requires kept { Kept context.now.tops }
     requires level { level ≤ 2000 }
     ensures { Applied context.now (Primitive_known primitive place (knowns (map known_of known.now))) (known_of argument.now) state.old state.new (written result walked.new.known) }
 {
@@ -749,7 +849,7 @@ fn walk_job<'a>(
     state: &mut Unfolding<'a>,
     walked: &mut Walked<'a>,
 ) -> Result<(), Refusal>
-    requires kept { Kept context.now.tops.value }
+    requires kept { Kept context.now.tops }
     requires level { level ≤ 2000 }
     ensures { Job_applied context.now primitive place (map known_of arguments.now) state.old state.new (written result walked.new.known) }
 {
@@ -763,7 +863,15 @@ fn walk_job<'a>(
     let mark = state.mark();
     match apply_all(context, level + 1, &job.function, job.arguments, state) {
         Ok(result) => put_known(
-            end_job(state, mark, primitive, place, &job, &result),
+            end_job(
+                state,
+                context.told.sizes,
+                mark,
+                primitive,
+                place,
+                &job,
+                &result,
+            ),
             walked,
         ),
         Err(refusal) => Err(refusal),
@@ -779,7 +887,7 @@ pub fn apply_all<'a>(
     arguments: &'a [Known<'a>],
     state: &mut Unfolding<'a>,
 ) -> Result<Known<'a>, Refusal>
-    requires kept { Kept context.now.tops.value }
+    requires kept { Kept context.now.tops }
     requires level { level ≤ 2000 }
     ensures { All_applied context.now (map known_of arguments.now) (known_of function.now) state.old state.new result }
 {

@@ -1,9 +1,7 @@
 // What unfolding a part of a program gives.
-use bumpalo::Bump;
 use fut_blocks::{Atom, Block};
-use fut_scalar::IntType;
 use unfold::{Known, Scope};
-use unfold_parts::Tops;
+use unfold_parts::{Told, Tops};
 
 /// The most applications, operations, blocks and functions of primitives that lie inside each other. A measured program has no
 /// more: 1,000 of its visits, and as many primitives.
@@ -12,20 +10,11 @@ pub const MOST_DEPTH: u32 = 2_000;
 /// The most components that a branch or a turn gives. Data of more is packed.
 pub const MOST_GIVEN: usize = 64;
 
-/// What is known of the definitions, and the types of integers without a suffix, by the numbers of their nodes.
+/// What is known of the definitions, and what is told of the program.
 #[derive(Drop)]
 pub struct Context<'a> {
-    // In a box, since what a type reaches through references has to be bounded.
-    pub tops: Box<Tops<'a>, &'a Bump>,
-    pub types: &'a [IntType],
-}
-
-/// Where a term is unfolded: what is known of the definitions and of the local names, and how many terms it lies inside.
-#[derive(Clone, Copy)]
-pub struct Setting<'c, 'a> {
-    pub context: &'c Context<'a>,
-    pub level: u32,
-    pub scope: Scope<'a>,
+    pub tops: Tops<'a>,
+    pub told: Told<'a>,
 }
 
 /// What is known of a term's value, and the number of the node behind the term.

@@ -16,7 +16,7 @@ use Rattle.fut_types.specs.declared.Head.TheVariants as head
 use Rattle.fut_types.specs.Types.{Ty, Made, scalar_ty}
 use Rattle.fut_typing.specs.Names.{Names}
 use Rattle.fut_meaning.specs.Found.{Told}
-use Rattle.fut_meaning.specs.Outcomes.{Out, Val}
+use Rattle.fut_meaning.specs.Outcomes.{Val}
 use Rattle.fut_meaning.specs.Datums.{as_value, as_values, all_values, datum_of}
 use Rattle.fut_meaning.specs.Flats.{FlatValue, FlatTops, FlatMode}
 use Rattle.fut_meaning.specs.Values.{Scalar_value, Tuple_value, Record_value, Array_value, Closure, Primitive_value, Values, no_value, value_and, listed as value_list}

@@ -1,6 +1,6 @@
 -- The data that an entry takes and gives: scalars, and arrays of scalars with the sizes of each level; and the components of a
 -- result, which is one of these or a tuple of them.
-use Rattle.std.specs.Prelude.{◌≡◌, ℕ, List, [], ◌∷◌, length, Bool, true, false}
+use Rattle.std.specs.Prelude.{◌≡◌, ℕ, List, [], ◌∷◌, length, Bool, true}
 use Rattle.fut_scalar.specs.declared.sizes.DataType.{DataType}
 use Rattle.fut_value.specs.Data.{Datum, Tuple_datum, listed}
 use Rattle.fut_value.specs.Values.{datum_with}

@@ -1,15 +1,21 @@
-// From a typed program to its blocks.
-ghost use Rattle.std.specs.Prelude.{◌≡◌, List, Bool, IfOk, IfErr, length, Ok, Err};
+// From an accepted program to its blocks.
+ghost use Rattle.std.specs.Prelude.{◌≡◌, ℕ, List, Bool, IfOk, IfErr, length, Ok, Err};
 ghost use Rattle.fut_scalar.specs.declared.sizes.DataType.{DataType as Sort};
 ghost use Rattle.fut_meaning.specs.Comes.{Program_lost};
 ghost use Rattle.fut_meaning.specs.Flats.{flat_tops, named_terms};
+ghost use Rattle.fut_meaning.specs.Found.{Sizing};
 ghost use Rattle.fut_meaning.specs.Measures.{Measures};
+ghost use Rattle.fut_typing.specs.Names.{Names};
+ghost use Rattle.sizing_tables.specs.Claims.{Is_resolved};
+ghost use Rattle.sizing_tables.specs.Told.{Is_sizing_of, told_with};
+ghost use Rattle.told_rows.specs.Tables.{Tells, node_at};
+ghost use Rattle.type_infer.specs.Inferring.{Numbers};
 ghost use Rattle.typed_programs.specs.Known.{Is_known};
 ghost use Rattle.typed_programs.specs.Typed.{integer_at};
-ghost use Rattle.unfold_parts.specs.Unsized.{Program_stuck};
+ghost use Rattle.unfold.specs.Stuck.{Program_stuck};
 ghost use Rattle.unfold_program.specs.Whole.{scalars};
 ghost use Rattle.unfolded_runs.specs.Claims.{Is_usable};
-ghost use Rattle.unfolded_runs.specs.Prepared.{Is_blocks, Is_past, Is_prepared};
+ghost use Rattle.unfolded_runs.specs.Prepared.{Is_blocks, Is_past, Is_prepared, Is_sizing_told};
 ghost use Rattle.unfolded_runs.specs.declared.preparing.PrepareErr.TheVariants as prepare_err;
 
 use bumpalo::Bump;
@@ -17,9 +23,12 @@ use fut_blocks::Program;
 use fut_flat::Flat;
 use fut_meaning::{MeasureErr, Measured};
 use fut_scalar::{BindId, DataType, IntType};
-use typed_programs::Accepted;
+use sized_programs::SizedProgram;
+use sizing_tables::sizing_tables;
+use std::alloc::Global;
+use told_rows::Sizes;
 use unfold_measure::measure;
-use unfold_program::{Refusal, unfold};
+use unfold_program::{Refusal, Told, unfold};
 
 /// Why a program is not ready to be run.
 #[derive(Clone, Copy, Debug, PartialEq, Eq)]
@@ -54,17 +63,45 @@ fn measured<'a>(
     }
 }
 
-/// The blocks of a program. What they are made of lies in the arena.
+/// The tables of a program's sizing, held by the arena.
+fn tables<'a>(
+    alloc: Global,
+    bump: &'a Bump,
+    program: &SizedProgram<'a>,
+) -> Result<&'a Sizes<'a>, PrepareErr>
+    ensures ok { (Z : Sizing) → Is_sizing_told program.now Z → IfOk result (λ tables. Tells tables.now Z) }
+    ensures memory { IfErr result (λ e. e ≡ prepare_err.Memory) }
+{
+    let accepted = program.accepted;
+    let made = sizing_tables(
+        alloc,
+        bump,
+        &accepted.flat,
+        &accepted.inference.labels,
+        &accepted.inference.table,
+        program.sizing.nodes.as_slice(),
+    );
+    match made {
+        Ok(tables) => match bump.try_alloc(tables) {
+            Ok(held) => Ok(held),
+            Err(_failed) => Err(PrepareErr::Memory),
+        },
+        Err(_) => Err(PrepareErr::Memory),
+    }
+}
+
+/// The blocks of a program whose sizing these tables tell. What they are made of lies in the arena.
 #[tactic(auto, using(crate::proofs::Blocks::blocks))]
 fn blocks<'a>(
     bump: &'a Bump,
     integers: &[IntType],
+    sizes: &'a Sizes<'a>,
     flat: &Flat<'a>,
     entry: BindId,
     params: &[DataType],
 ) -> Result<Program<'a>, PrepareErr>
-    requires unstuck { Program_stuck (integer_at integers.now) (flat_tops 0 (named_terms flat.now)) entry.0 (scalars (length params.now)) → ⊥ }
-    ensures ok { IfOk result (Is_blocks flat.now integers.now entry params.now) }
+    requires told { (Z : Sizing) × Tells sizes.now Z × (Program_stuck (told_with (integer_at integers.now) Z) (flat_tops 0 (named_terms flat.now)) entry.0 (scalars (length params.now)) → ⊥) }
+    ensures ok { (Z : Sizing) → Tells sizes.now Z → IfOk result (Is_blocks flat.now (told_with (integer_at integers.now) Z) entry params.now) }
     ensures memory { IfErr result (λ e. e ≡ prepare_err.Memory) }
 {
     let Ok(integers) = bump.try_alloc_slice_copy(integers) else {
@@ -73,29 +110,39 @@ fn blocks<'a>(
     let Ok(params) = bump.try_alloc_slice_copy(params) else {
         return Err(PrepareErr::Memory);
     };
-    match unfold(bump, integers, flat, entry, params) {
+    let told = Told {
+        types: integers,
+        sizes: Some(sizes),
+    };
+    match unfold(bump, told, flat, entry, params) {
         Ok(program) => Ok(program),
         Err(Refusal::Memory) => Err(PrepareErr::Memory),
         Err(Refusal::Lost) => unreachable!(),
     }
 }
 
-/// The blocks of an accepted program from an entry on, whose parameters are of these types. They lie in the arena.
+/// The blocks of an accepted program from an entry on, whose parameters are of these types. They lie in the arena. Rows that are
+/// missing and the sizes that data has to have are told by the program's sizing.
 pub fn prepare<'a>(
+    alloc: Global,
     bump: &'a Bump,
-    accepted: &Accepted<'a>,
+    program: &SizedProgram<'a>,
     entry: BindId,
     params: &[DataType],
 ) -> Result<Program<'a>, PrepareErr>
-    requires known { Is_known accepted.now }
-    requires usable { (tuple : Bool) × (results : List Sort) × Is_usable accepted.now.flat accepted.now.inference entry params.now tuple results }
-    ensures prepared { IfOk result (Is_prepared accepted.now.flat accepted.now.integers entry params.now) }
-    ensures refused { IfErr result (Is_past accepted.now.flat entry params.now) }
+    requires known { Is_known program.now.accepted.now }
+    requires resolved { Is_resolved program.now.accepted.now.flat }
+    requires usable { (tuple : Bool) × (results : List Sort) × Is_usable program.now.accepted.now.flat program.now.accepted.now.inference entry params.now tuple results }
+    ensures prepared { (Z : Sizing) → Is_sizing_told program.now Z → IfOk result (Is_prepared program.now.accepted.now.flat (told_with (integer_at program.now.accepted.now.integers) Z) entry params.now) }
+    ensures refused { IfErr result (Is_past program.now.accepted.now.flat entry params.now) }
 {
+    let accepted = program.accepted;
     let _measured = measured(bump, &accepted.flat, entry, params)?;
+    let sizes = tables(alloc, bump, program)?;
     blocks(
         bump,
         accepted.integers.as_slice(),
+        sizes,
         &accepted.flat,
         entry,
         params,

@@ -53,6 +53,7 @@ why_of (refused.Parse err) = why.Parse err
 why_of (refused.NotBuilt at) = why.NotBuilt at
 why_of (refused.Names err) = why.Names err
 why_of (refused.Types err) = why.Types err
+why_of (refused.Misfit err) = why.Sizes err
 why_of (refused.Misused err) = why.Unique err
 why_of refused.Memory = why.Memory
 

@@ -5,36 +5,36 @@ use Rattle.futhark_core.proofs.program.run_ready.Goals as goal
 
 pub eval-requires-clause-never_wrong : goal.eval-requires-clause-never_wrong
 eval-requires-clause-never_wrong g c =
-    let read = rw c.as_slice.ensures at c.in-Ok-read_data.ensures.read in
-    rw (c.as_slice-3.ensures, read.2) (c.requires.never_wrong _ read.3)
+    let read = c.in-Ok-read_data.ensures.read in
+    rw (c.as_slice-2.ensures, read.2) (c.requires.never_wrong _ (read.3 _ c.requires.wanted))
 
 pub returns-in-Err : goal.returns-in-Err
-returns-in-Err g c = λ source e params tuple types ready runs.
-    let refused = rw (c.as_slice.ensures, c.as_slice-2.ensures) at c.in-Err.ensures.refused in
-    rw c.input_status.ensures (unread (command_in c.args.command.now) source e ready _ _ _ params c.in-Err.err c.in-Ok.bytes c.in-Ok.ensures.ok c.in-Ok.ensures.short refused refl)
+returns-in-Err g c = λ source e params wanted tuple types ready runs.
+    let refused = rw c.as_slice.ensures at c.in-Err.ensures.refused in
+    rw c.input_status.ensures (unread (command_in c.args.command.now) source e ready _ _ _ params _ wanted c.in-Err.err c.in-Ok.bytes c.in-Ok.ensures.ok c.in-Ok.ensures.short refused refl)
 
 pub returns-in-Err-eval : goal.returns-in-Err-eval
-returns-in-Err-eval g c = λ source e params tuple types ready runs.
-    let read = rw (c.as_slice.ensures, c.as_slice-2.ensures) at c.in-Ok-read_data.ensures.read in
-    let answer = rw (c.as_slice-3.ensures, read.2) at c.in-Err-eval.ensures in
+returns-in-Err-eval g c = λ source e params wanted tuple types ready runs.
+    let read = rw c.as_slice.ensures at c.in-Ok-read_data.ensures.read in
+    let answer = rw (c.as_slice-2.ensures, read.2) at c.in-Err-eval.ensures in
     rw c.failed_status.ensures
-    (unevaluated (command_in c.args.command.now) source e ready _ _ _ params c.args.program.now runs c.in-Ok.bytes c.in-Ok.ensures.ok c.in-Ok.ensures.short
-    read.0 read.1 read.3 c.in-Err-eval.err c.args.path answer c.requires.path refl)
+    (unevaluated (command_in c.args.command.now) source e ready _ _ _ params _ wanted c.args.program.now runs c.in-Ok.bytes c.in-Ok.ensures.ok c.in-Ok.ensures.short
+    read.0 read.1 (read.3 _ c.requires.wanted) c.in-Err-eval.err c.args.path answer c.requires.path refl)
 
 pub returns-in-Ok-write_all : goal.returns-in-Ok-write_all
-returns-in-Ok-write_all g c = λ source e params tuple types ready runs.
-    let read = rw (c.as_slice.ensures, c.as_slice-2.ensures) at c.in-Ok-read_data.ensures.read in
-    let answer = rw (c.as_slice-3.ensures, read.2) at c.in-Ok-eval.ensures in
-    let text = rw (c.as_slice-4.ensures, c.as_slice-5.ensures) at c.in-Ok-print_result.ensures in
+returns-in-Ok-write_all g c = λ source e params wanted tuple types ready runs.
+    let read = rw c.as_slice.ensures at c.in-Ok-read_data.ensures.read in
+    let answer = rw (c.as_slice-2.ensures, read.2) at c.in-Ok-eval.ensures in
+    let text = rw (c.as_slice-3.ensures, c.as_slice-4.ensures) at c.in-Ok-print_result.ensures in
     let out = rw c.deref.ensures.value at c.in-Ok-write_all.ensures.ok in
-    done (command_in c.args.command.now) source e ready (record { input = _; out = g.K.Sink.seen c.args.out.now }) (record { input = _; out = _ }) _ params c.args.program.now runs c.in-Ok.bytes c.in-Ok.ensures.ok c.in-Ok.ensures.short
-    read.0 read.1 read.3 _ _ tuple types c.in-Ok-eval.results answer _ text out
+    done (command_in c.args.command.now) source e ready (record { input = _; out = g.K.Sink.seen c.args.out.now }) (record { input = _; out = _ }) _ params _ wanted c.args.program.now runs c.in-Ok.bytes c.in-Ok.ensures.ok c.in-Ok.ensures.short
+    read.0 read.1 (read.3 _ c.requires.wanted) _ _ tuple types c.in-Ok-eval.results answer _ text out
 
 pub returns : goal.returns
-returns g c = λ source e params tuple types ready runs.
-    let read = rw (c.as_slice.ensures, c.as_slice-2.ensures) at c.in-Ok-read_data.ensures.read in
-    let answer = rw (c.as_slice-3.ensures, read.2) at c.in-Ok-eval.ensures in
-    let text = rw (c.as_slice-4.ensures, c.as_slice-5.ensures) at c.in-Ok-print_result.ensures in
+returns g c = λ source e params wanted tuple types ready runs.
+    let read = rw c.as_slice.ensures at c.in-Ok-read_data.ensures.read in
+    let answer = rw (c.as_slice-2.ensures, read.2) at c.in-Ok-eval.ensures in
+    let text = rw (c.as_slice-3.ensures, c.as_slice-4.ensures) at c.in-Ok-print_result.ensures in
     let out = rw c.deref.ensures.value at c.in-Err-write_all.ensures.failed in
-    unwritten (command_in c.args.command.now) source e ready (record { input = _; out = g.K.Sink.seen c.args.out.now }) (record { input = _; out = _ }) _ params c.args.program.now runs c.in-Ok.bytes c.in-Ok.ensures.ok c.in-Ok.ensures.short
-    read.0 read.1 read.3 _ _ tuple types c.in-Ok-eval.results answer _ text out
+    unwritten (command_in c.args.command.now) source e ready (record { input = _; out = g.K.Sink.seen c.args.out.now }) (record { input = _; out = _ }) _ params _ wanted c.args.program.now runs c.in-Ok.bytes c.in-Ok.ensures.ok c.in-Ok.ensures.short
+    read.0 read.1 (read.3 _ c.requires.wanted) _ _ tuple types c.in-Ok-eval.results answer _ text out

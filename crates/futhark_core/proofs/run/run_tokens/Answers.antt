@@ -7,14 +7,19 @@ use Rattle.futhark_core.proofs.run.run_tokens.Goals as goal
 pub returns-in_default : goal.returns-in_default
 returns-in_default g c = inr (record { reason = why.Memory; explains = tt; is = refl; quiet = refl })
 
+pub act-requires-clause-resolved : goal.act-requires-clause-resolved
+act-requires-clause-resolved g c =
+    let resolved = c.in-Ok-accept.ensures.accepted.acceptable.resolved in
+    (resolved.resolves.prelude ∷ resolved.program ∷ [], resolved.resolves.resolved)
+
 pub returns-in-Ok-accept : goal.returns-in-Ok-accept
 returns-in-Ok-accept g c =
     let acceptable = c.in-Ok-accept.ensures.accepted.acceptable in
     let files = acceptable.resolved.resolves.prelude ∷ acceptable.resolved.program ∷ [] in
     inl (record {
-      source = record { files = files; flat = c.in-Ok-accept.accepted.now.flat };
+      source = record { files = files; flat = c.in-Ok-accept.program.accepted.now.flat };
       accepted = record { acceptable = acceptable; files = refl };
-      ended = c.act.ensures (record { files = files; flat = c.in-Ok-accept.accepted.now.flat }) refl acceptable.resolved.resolves.resolved;
+      ended = c.act.ensures (record { files = files; flat = c.in-Ok-accept.program.accepted.now.flat }) refl acceptable.resolved.resolves.resolved;
     })
 
 pub returns : goal.returns

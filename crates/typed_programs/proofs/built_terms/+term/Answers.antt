@@ -54,8 +54,8 @@ exp_is_built-returns-then-exp_is_built-3 t c = record {
 
 pub loop_is_built-returns-then-turns_are_built : goal.loop_is_built-returns-then-turns_are_built
 loop_is_built-returns-then-turns_are_built t c = record {
-  built = λ r. loop_built c.args.turning.now (c.no_sizes.ensures.built c.if-not-no_sizes.false) (c.exp_is_built.ensures.built c.if-not-exp_is_built.false) (c.turns_are_built.ensures.built c.if-turns_are_built.true) (c.exp_is_built-then-turns_are_built.ensures.built r);
-  unbuilt = λ r h. c.exp_is_built-then-turns_are_built.ensures.unbuilt r (loop_was c.args.turning.now h).3;
+  built = λ r. loop_built c.args.turning.now (c.exp_is_built.ensures.built c.if-not-exp_is_built.false) (c.turns_are_built.ensures.built c.if-turns_are_built.true) (c.exp_is_built-then-turns_are_built.ensures.built r);
+  unbuilt = λ r h. c.exp_is_built-then-turns_are_built.ensures.unbuilt r (loop_was c.args.turning.now h).2;
 }
 
 pub exp_is_built-returns-else-act_is_built-clause-unbuilt : goal.exp_is_built-returns-else-act_is_built-clause-unbuilt
@@ -76,14 +76,11 @@ exp_is_built-returns-else-exp_is_built-3-clause-unbuilt t c r h = c.exp_is_built
 pub exp_is_built-returns-else-exp_is_built-2-clause-unbuilt : goal.exp_is_built-returns-else-exp_is_built-2-clause-unbuilt
 exp_is_built-returns-else-exp_is_built-2-clause-unbuilt t c r h = c.exp_is_built-in-If.ensures.unbuilt c.if-exp_is_built-2.false (was_if c.args.exp.now c.in-If.test c.in-If.yes c.in-If.no c.in-If.is h).0
 
-pub loop_is_built-returns-then-not-no_sizes-clause-unbuilt : goal.loop_is_built-returns-then-not-no_sizes-clause-unbuilt
-loop_is_built-returns-then-not-no_sizes-clause-unbuilt t c r h = c.no_sizes.ensures.unbuilt c.if-not-no_sizes.true (loop_was c.args.turning.now h).0
-
 pub loop_is_built-returns-then-not-exp_is_built-clause-unbuilt : goal.loop_is_built-returns-then-not-exp_is_built-clause-unbuilt
-loop_is_built-returns-then-not-exp_is_built-clause-unbuilt t c r h = c.exp_is_built.ensures.unbuilt c.if-not-exp_is_built.true (loop_was c.args.turning.now h).1
+loop_is_built-returns-then-not-exp_is_built-clause-unbuilt t c r h = c.exp_is_built.ensures.unbuilt c.if-not-exp_is_built.true (loop_was c.args.turning.now h).0
 
 pub loop_is_built-returns-else-turns_are_built-clause-unbuilt : goal.loop_is_built-returns-else-turns_are_built-clause-unbuilt
-loop_is_built-returns-else-turns_are_built-clause-unbuilt t c r h = c.turns_are_built.ensures.unbuilt c.if-turns_are_built.false (loop_was c.args.turning.now h).2
+loop_is_built-returns-else-turns_are_built-clause-unbuilt t c r h = c.turns_are_built.ensures.unbuilt c.if-turns_are_built.false (loop_was c.args.turning.now h).1
 
 pub turns_are_built-returns-in-ForIn : goal.turns_are_built-returns-in-ForIn
 turns_are_built-returns-in-ForIn t c = record {

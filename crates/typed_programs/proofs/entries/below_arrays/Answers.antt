@@ -1,7 +1,7 @@
 use Rattle.std.proofs.Common.{ℕ, suc, ◌+◌, ◌≡◌, length, sym, ◌∙◌, subst, arith}
 use Rattle.type_infer.specs.Reading.{Generally}
 use Rattle.typed_programs.specs.Entries.{Levels_are}
-use Rattle.typed_programs.proofs.EntryTypes.{level_within, levels_more, no_level, no_levels}
+use Rattle.typed_programs.proofs.EntryTypes.{level_within, levels_more, no_level}
 use Rattle.typed_programs.proofs.entries.below_arrays.Goals as goal
 
 suc_is : (n m : ℕ) → m ≡ n + 1 → suc n ≡ m

@@ -1,7 +1,5 @@
-use Rattle.std.proofs.Common.{refl, ap, ◌∙◌, ◌∷◌}
-use Rattle.unfold.specs.Held.{known_of}
+use Rattle.std.proofs.Common.{refl}
 use Rattle.unfold_parts.specs.Refused.{no_memory}
-use Rattle.unfold_parts.specs.Tables.{tops_of}
 use Rattle.unfold_program.specs.Whole.{not_defined}
 use Rattle.unfold_program.proofs.Programs.{define_passed, define_ok, define_err, define_stuck}
 use Rattle.unfold_program.proofs.program.unfold_definition.Goals as goal
@@ -21,8 +19,5 @@ returns-in-Err-walk-clause-defined c = define_stuck _ _ _ _ _ _ _ _ _ _ _ c.if-n
 pub returns-in-Err-with-clause-defined : goal.returns-in-Err-with-clause-defined
 returns-in-Err-with-clause-defined c = define_err _ _ _ _ _ _ _ c.in-Err-with.ensures.err
 
-pub returns-in-Err-new-clause-defined : goal.returns-in-Err-new-clause-defined
-returns-in-Err-new-clause-defined c = not_defined no_memory
-
 pub returns-clause-defined : goal.returns-clause-defined
-returns-clause-defined c = define_ok _ _ _ _ _ c.args.made.context (record { tops = c.in-Ok-new.tops; types = c.args.made.context.types }) _ _ _ _ c.if-not-reached.false refl c.nothing.ensures c.in-Ok.ensures c.in-Ok-walk.ensures (ap tops_of c.in-Ok-new.ensures.ok ∙ c.in-Ok-with.ensures.tops ∙ ap (λ z. (c.args.definition.now.bind.0, known_of c.walk.new.walked.known) ∷ tops_of z) c.into_inner.ensures) refl
+returns-clause-defined c = define_ok _ _ _ _ _ c.args.made.context (record { tops = c.in-Ok-with.tops; told = c.args.made.context.told }) _ _ _ _ c.if-not-reached.false refl c.nothing.ensures c.in-Ok.ensures c.in-Ok-walk.ensures c.in-Ok-with.ensures.tops refl

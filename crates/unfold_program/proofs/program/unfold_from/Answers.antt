@@ -9,9 +9,6 @@ returns-in-Err c = whole_ungiven _ _ _ _ _ _ _ _ c.in-Err.ensures.given
 pub returns-in-Err-reached : goal.returns-in-Err-reached
 returns-in-Err-reached c = no_program no_memory
 
-pub returns-in-Err-new : goal.returns-in-Err-new
-returns-in-Err-new c = no_program no_memory
-
 pub returns-in-Err-unfold_definitions : goal.returns-in-Err-unfold_definitions
 returns-in-Err-unfold_definitions c = whole_undefined _ _ _ _ _ _ _ c.in-Err-unfold_definitions.ensures.defined
 

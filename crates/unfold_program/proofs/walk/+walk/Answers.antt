@@ -1,10 +1,8 @@
-use Rattle.std.proofs.Common.{refl, arith, ◌∙◌, subst}
+use Rattle.std.proofs.Common.{refl, arith, ◌∙◌}
 use Rattle.std.proofs.lemmas.Slice.{between_to_end}
 use Rattle.unfold_parts.specs.Refused.{no_memory}
 use Rattle.unfold_parts.proofs.Refusing.{only_memory}
-use Rattle.unfold.specs.Held.{scope_of}
-use Rattle.unfold_parts.specs.Tables.{tops_of}
-use Rattle.unfold_program.specs.Answers.{Use_known, written, walked_to, not_walked, refused, all_refused, not_applied, not_looped, has_to_pack, not_tried, row_refused}
+use Rattle.unfold_program.specs.Answers.{walked_to, not_walked, refused, all_refused, not_applied, not_looped, has_to_pack, not_tried, row_refused}
 use Rattle.unfold_program.proofs.Arms.{form_use, form_strict, form_lambda, form_apply, form_if, form_loop, strict_parts_err, strict_end, apply_function_err, apply_argument_err, apply_end, scalar_end, scalar_stuck}
 use Rattle.unfold_program.proofs.Branching.{closes, block_mark, block_stuck, closed_as, blocked_as, branches_as, then_err, then_unlaid, then_differs, closed_mark, else_err, else_differs, branches_end, branches_again, if_test_err, if_branched, if_branches_err, branches_mark, branches_cut}
 use Rattle.unfold_program.proofs.Looping.{turns_for, turns_for_in, turns_test, loop_first_err, loop_looped, loop_turns_err, loop_unpacked, loop_tried, loop_tried_err, packed_first, tried_looped, tried_err, tried_again, tried_as, looped_as, turns_mark, turn_mark, unentered, unnamed, count_err, counted_unbound, counted_body_err, counted_differs, counted_end, rows_err, row_unbound, row_mark, row_body_err, row_differs, row_end, test_unbound, test_err, test_mark, test_end, while_test_err, while_unbound, while_mark, while_body_err, while_differs, while_end}
@@ -14,8 +12,8 @@ use Rattle.unfold_program.proofs.Rows.{parts_start, parts_err, parts_more, parts
 use Rattle.unfold_program.proofs.Running.{apply_of_other, apply_of_primitive, primitive_as, primitive_known, primitive_err, primitive_job, job_unbegun, job_stuck, job_mark, job_end, apply_unargued, apply_waits, apply_walks, applied_as, job_as}
 use Rattle.unfold_program.proofs.walk.+walk.Goals as goal
 
-pub walk-returns-then-setting-ge-MOST_DEPTH : goal.walk-returns-then-setting-ge-MOST_DEPTH
-walk-returns-then-setting-ge-MOST_DEPTH t c = refused no_memory
+pub walk-returns-then-level-ge-MOST_DEPTH : goal.walk-returns-then-level-ge-MOST_DEPTH
+walk-returns-then-level-ge-MOST_DEPTH t c = refused no_memory
 
 pub walk-returns-in-Err : goal.walk-returns-in-Err
 walk-returns-in-Err t c = unpeeled _ _ _ _ _ _ _ c.in-Err.ensures.peeled
@@ -24,7 +22,7 @@ pub walk-returns-in-Ok : goal.walk-returns-in-Ok
 walk-returns-in-Ok t c = peeled_unfolded _ _ _ _ _ _ _ _ c.in-Ok.ensures.peeled c.walk_form.ensures
 
 pub walk_form-returns-in-Use : goal.walk_form-returns-in-Use
-walk_form-returns-in-Use t c = form_use c.args.setting.now.context.now _ _ _ _ _ _ _ c.in-Use.is (subst (λ z. Use_known (tops_of z) (scope_of c.args.setting.now.scope) c.in-Use.reference c.args.at c.args.exp.now (written c.used.result c.used.new.walked)) c.deref.ensures c.used.ensures)
+walk_form-returns-in-Use t c = form_use _ _ _ _ _ _ _ _ _ c.in-Use.is c.use_known.ensures
 
 pub walk_form-returns-in-Lambda : goal.walk_form-returns-in-Lambda
 walk_form-returns-in-Lambda t c = form_lambda _ _ _ _ _ _ _ _ _ c.in-Lambda.is c.requires.inside c.walk_lambda.ensures
@@ -51,7 +49,7 @@ pub walk_strict-returns-in-Err-walk_parts : goal.walk_strict-returns-in-Err-walk
 walk_strict-returns-in-Err-walk_parts t c = strict_parts_err _ _ _ _ _ _ _ _ _ _ _ c.own_numbers_of.ensures c.in-Ok.ensures c.in-Err-walk_parts.ensures
 
 pub walk_strict-returns : goal.walk_strict-returns
-walk_strict-returns t c = strict_end _ _ _ _ _ _ _ _ _ _ _ _ _ _ c.own_numbers_of.ensures c.in-Ok.ensures c.in-Ok-walk_parts.ensures c.literal_type_at-ty.ensures c.operated.ensures
+walk_strict-returns t c = strict_end _ _ _ _ _ _ _ _ _ _ _ _ _ c.own_numbers_of.ensures c.in-Ok.ensures c.in-Ok-walk_parts.ensures c.operated.ensures
 
 pub walk_parts-returns-in-Err : goal.walk_parts-returns-in-Err
 walk_parts-returns-in-Err t c = parts_err _ _ _ _ _ _ _ _ _ _ _ _ c.loop-exp-test.true c.loop-exp.invariant c.in-Err.ensures
@@ -210,13 +208,13 @@ pub walk_loop-returns-in-Err-walk : goal.walk_loop-returns-in-Err-walk
 walk_loop-returns-in-Err-walk t c = λ lo q. loop_first_err _ _ _ lo _ _ _ q c.in-Ok.ensures _ _ _ c.in-Err-walk.ensures
 
 pub walk_turns-returns-in-For : goal.walk_turns-returns-in-For
-walk_turns-returns-in-For t c = turns_for _ _ _ _ _ _ _ _ _ c.in-For.is c.walk_for.ensures
+walk_turns-returns-in-For t c = turns_for _ _ _ _ _ _ _ _ _ _ c.in-For.is c.walk_for.ensures
 
 pub walk_turns-returns-in-ForIn : goal.walk_turns-returns-in-ForIn
-walk_turns-returns-in-ForIn t c = turns_for_in _ _ _ _ _ _ _ _ _ c.in-ForIn.is c.walk_rows.ensures
+walk_turns-returns-in-ForIn t c = turns_for_in _ _ _ _ _ _ _ _ _ _ c.in-ForIn.is c.walk_rows.ensures
 
 pub walk_turns-returns-in-While : goal.walk_turns-returns-in-While
-walk_turns-returns-in-While t c = turns_test _ _ _ _ _ _ _ _ c.in-While.is c.walk_while.ensures
+walk_turns-returns-in-While t c = turns_test _ _ _ _ _ _ _ _ _ c.in-While.is c.walk_while.ensures
 
 pub walk_branches-returns-in-Err : goal.walk_branches-returns-in-Err
 walk_branches-returns-in-Err t c = then_err _ _ _ _ _ _ _ _ _ _ c.in-Err.ensures
@@ -240,76 +238,76 @@ pub walk_for-returns-in-Err : goal.walk_for-returns-in-Err
 walk_for-returns-in-Err t c = not_looped no_memory
 
 pub walk_for-returns-in-Err-walk_scalar : goal.walk_for-returns-in-Err-walk_scalar
-walk_for-returns-in-Err-walk_scalar t c = count_err _ _ _ _ _ _ _ _ _ c.in-Ok.ensures _ _ c.in-Err-walk_scalar.ensures
+walk_for-returns-in-Err-walk_scalar t c = count_err _ _ _ _ _ _ _ _ _ _ c.in-Ok.ensures _ _ c.in-Err-walk_scalar.ensures
 
 pub walk_for-returns-in-Err-enter : goal.walk_for-returns-in-Err-enter
-walk_for-returns-in-Err-enter t c = unentered _ _ _ _ _ _ _ _ _ _ c.in-Err-enter.ensures.entered
+walk_for-returns-in-Err-enter t c = unentered _ _ _ _ _ _ _ _ _ _ _ c.in-Err-enter.ensures.entered
 
 pub walk_for-returns-in-Err-name : goal.walk_for-returns-in-Err-name
-walk_for-returns-in-Err-name t c = unnamed _ _ _ _ _ _ _ _ _ _ c.in-Err-name.ensures.name
+walk_for-returns-in-Err-name t c = unnamed _ _ _ _ _ _ _ _ _ _ _ c.in-Err-name.ensures.name
 
 pub walk_for-returns-in-Err-bind_turn : goal.walk_for-returns-in-Err-bind_turn
-walk_for-returns-in-Err-bind_turn t c = counted_unbound _ _ _ _ _ _ _ _ c.walk_scalar.new.state c.in-Ok.ensures c.enter.new.state _ _ c.in-Ok-walk_scalar.n c.in-Ok-enter.entered _ _ _ c.in-Ok-enter.ensures.entered c.in-Err-bind_turn.ensures
+walk_for-returns-in-Err-bind_turn t c = counted_unbound _ _ _ _ _ _ _ _ _ c.walk_scalar.new.state c.in-Ok.ensures c.enter.new.state _ _ c.in-Ok-walk_scalar.n c.in-Ok-enter.entered _ _ _ c.in-Ok-enter.ensures.entered c.in-Err-bind_turn.ensures
 
 pub walk_for-returns-in-Ok-None : goal.walk_for-returns-in-Ok-None
-walk_for-returns-in-Ok-None t c = counted_differs _ _ _ _ _ _ _ _ _ c.in-Ok.ensures c.enter.new.state _ _ c.in-Ok-walk_scalar.n c.in-Ok-enter.entered _ _ _ _ (c.in-Ok-name.ensures.steps ∙ c.in-Ok-enter.ensures.steps) c.in-Ok-walk_scalar.ensures c.in-Ok-bind_turn.ensures (blocked_as c.in-Ok-None.field-0-is c.in-Ok-None.ensures)
+walk_for-returns-in-Ok-None t c = counted_differs _ _ _ _ _ _ _ _ _ _ c.in-Ok.ensures c.enter.new.state _ _ c.in-Ok-walk_scalar.n c.in-Ok-enter.entered _ _ _ _ (c.in-Ok-name.ensures.steps ∙ c.in-Ok-enter.ensures.steps) c.in-Ok-walk_scalar.ensures c.in-Ok-bind_turn.ensures (blocked_as c.in-Ok-None.field-0-is c.in-Ok-None.ensures)
 
 pub walk_for-returns-in-Err-walk_block : goal.walk_for-returns-in-Err-walk_block
-walk_for-returns-in-Err-walk_block t c = counted_body_err _ _ _ _ _ _ _ _ _ c.in-Ok.ensures c.enter.new.state _ _ c.in-Ok-walk_scalar.n c.in-Ok-enter.entered _ _ _ _ _ _ c.in-Ok-walk_scalar.ensures c.in-Ok-enter.ensures.entered c.in-Ok-bind_turn.ensures c.in-Err-walk_block.ensures
+walk_for-returns-in-Err-walk_block t c = counted_body_err _ _ _ _ _ _ _ _ _ _ c.in-Ok.ensures c.enter.new.state _ _ c.in-Ok-walk_scalar.n c.in-Ok-enter.entered _ _ _ _ _ _ c.in-Ok-walk_scalar.ensures c.in-Ok-enter.ensures.entered c.in-Ok-bind_turn.ensures c.in-Err-walk_block.ensures
 
 pub walk_for-returns : goal.walk_for-returns
-walk_for-returns t c = counted_end _ _ _ _ _ _ _ _ _ c.in-Ok.ensures c.enter.new.state _ _ c.in-Ok-walk_scalar.n c.in-Ok-enter.entered _ _ _ _ _ _ _ c.mark-mark.ensures (c.in-Ok-name.ensures.steps ∙ c.in-Ok-enter.ensures.steps) c.in-Ok-name.ensures.name c.in-Ok-walk_scalar.ensures c.in-Ok-enter.ensures.entered c.in-Ok-bind_turn.ensures (blocked_as c.in-Ok-Some.field-0-is c.in-Ok-Some.ensures) c.give_counted.ensures
+walk_for-returns t c = counted_end _ _ _ _ _ _ _ _ _ _ c.in-Ok.ensures c.enter.new.state _ _ c.in-Ok-walk_scalar.n c.in-Ok-enter.entered _ _ _ _ _ _ _ c.mark-mark.ensures (c.in-Ok-name.ensures.steps ∙ c.in-Ok-enter.ensures.steps) c.in-Ok-name.ensures.name c.in-Ok-walk_scalar.ensures c.in-Ok-enter.ensures.entered c.in-Ok-bind_turn.ensures (blocked_as c.in-Ok-Some.field-0-is c.in-Ok-Some.ensures) c.give_counted.ensures
 
 pub walk_rows-returns-in-Err : goal.walk_rows-returns-in-Err
 walk_rows-returns-in-Err t c = not_looped no_memory
 
 pub walk_rows-returns-in-Err-walk_scalar : goal.walk_rows-returns-in-Err-walk_scalar
-walk_rows-returns-in-Err-walk_scalar t c = rows_err _ _ _ _ _ _ _ _ _ c.in-Ok.ensures _ _ c.in-Err-walk_scalar.ensures
+walk_rows-returns-in-Err-walk_scalar t c = rows_err _ _ _ _ _ _ _ _ _ _ c.in-Ok.ensures _ _ c.in-Err-walk_scalar.ensures
 
 pub walk_rows-returns-in-Err-enter : goal.walk_rows-returns-in-Err-enter
-walk_rows-returns-in-Err-enter t c = unentered _ _ _ _ _ _ _ _ _ _ c.in-Err-enter.ensures.entered
+walk_rows-returns-in-Err-enter t c = unentered _ _ _ _ _ _ _ _ _ _ _ c.in-Err-enter.ensures.entered
 
 pub walk_rows-returns-in-Err-name : goal.walk_rows-returns-in-Err-name
-walk_rows-returns-in-Err-name t c = unnamed _ _ _ _ _ _ _ _ _ _ c.in-Err-name.ensures.name
+walk_rows-returns-in-Err-name t c = unnamed _ _ _ _ _ _ _ _ _ _ _ c.in-Err-name.ensures.name
 
 pub walk_rows-returns-in-Err-bind_row : goal.walk_rows-returns-in-Err-bind_row
-walk_rows-returns-in-Err-bind_row t c = row_unbound _ _ _ _ _ _ _ _ c.walk_scalar.new.state c.in-Ok.ensures c.enter.new.state _ _ c.in-Ok-walk_scalar.r c.in-Ok-enter.entered _ _ _ c.in-Ok-enter.ensures.entered c.in-Err-bind_row.ensures
+walk_rows-returns-in-Err-bind_row t c = row_unbound _ _ _ _ _ _ _ _ _ c.walk_scalar.new.state c.in-Ok.ensures c.enter.new.state _ _ c.in-Ok-walk_scalar.r c.in-Ok-enter.entered _ _ _ c.in-Ok-enter.ensures.entered c.in-Err-bind_row.ensures
 
 pub walk_rows-returns-in-Ok-None : goal.walk_rows-returns-in-Ok-None
-walk_rows-returns-in-Ok-None t c = row_differs _ _ _ _ _ _ _ _ _ c.in-Ok.ensures c.enter.new.state _ _ c.in-Ok-walk_scalar.r c.in-Ok-enter.entered _ _ _ _ (c.in-Ok-name.ensures.steps ∙ c.in-Ok-enter.ensures.steps) c.in-Ok-walk_scalar.ensures c.in-Ok-bind_row.ensures (blocked_as c.in-Ok-None.field-0-is c.in-Ok-None.ensures)
+walk_rows-returns-in-Ok-None t c = row_differs _ _ _ _ _ _ _ _ _ _ c.in-Ok.ensures c.enter.new.state _ _ c.in-Ok-walk_scalar.r c.in-Ok-enter.entered _ _ _ _ (c.in-Ok-name.ensures.steps ∙ c.in-Ok-enter.ensures.steps) c.in-Ok-walk_scalar.ensures c.in-Ok-bind_row.ensures (blocked_as c.in-Ok-None.field-0-is c.in-Ok-None.ensures)
 
 pub walk_rows-returns-in-Err-walk_block : goal.walk_rows-returns-in-Err-walk_block
-walk_rows-returns-in-Err-walk_block t c = row_body_err _ _ _ _ _ _ _ _ _ c.in-Ok.ensures c.enter.new.state _ _ c.in-Ok-walk_scalar.r c.in-Ok-enter.entered _ _ _ _ _ _ c.in-Ok-walk_scalar.ensures c.in-Ok-enter.ensures.entered c.in-Ok-bind_row.ensures c.in-Err-walk_block.ensures
+walk_rows-returns-in-Err-walk_block t c = row_body_err _ _ _ _ _ _ _ _ _ _ c.in-Ok.ensures c.enter.new.state _ _ c.in-Ok-walk_scalar.r c.in-Ok-enter.entered _ _ _ _ _ _ c.in-Ok-walk_scalar.ensures c.in-Ok-enter.ensures.entered c.in-Ok-bind_row.ensures c.in-Err-walk_block.ensures
 
 pub walk_rows-returns : goal.walk_rows-returns
-walk_rows-returns t c = row_end _ _ _ _ _ _ _ _ _ c.in-Ok.ensures c.enter.new.state _ _ c.in-Ok-walk_scalar.r c.in-Ok-enter.entered _ _ _ _ _ _ _ c.mark-mark.ensures (c.in-Ok-name.ensures.steps ∙ c.in-Ok-enter.ensures.steps) c.in-Ok-name.ensures.name c.in-Ok-walk_scalar.ensures c.in-Ok-enter.ensures.entered c.in-Ok-bind_row.ensures (blocked_as c.in-Ok-Some.field-0-is c.in-Ok-Some.ensures) c.give_rows.ensures
+walk_rows-returns t c = row_end _ _ _ _ _ _ _ _ _ _ c.in-Ok.ensures c.enter.new.state _ _ c.in-Ok-walk_scalar.r c.in-Ok-enter.entered _ _ _ _ _ _ _ c.mark-mark.ensures (c.in-Ok-name.ensures.steps ∙ c.in-Ok-enter.ensures.steps) c.in-Ok-name.ensures.name c.in-Ok-walk_scalar.ensures c.in-Ok-enter.ensures.entered c.in-Ok-bind_row.ensures (blocked_as c.in-Ok-Some.field-0-is c.in-Ok-Some.ensures) c.give_rows.ensures
 
 pub walk_test-returns-in-Err : goal.walk_test-returns-in-Err
-walk_test-returns-in-Err t c = test_unbound _ _ _ _ _ _ _ c.bind.new.work _ _ c.in-Err.ensures
+walk_test-returns-in-Err t c = test_unbound _ _ _ _ _ _ _ _ c.bind.new.work _ _ c.in-Err.ensures
 
 pub walk_test-returns-in-Ok-walk_scalar : goal.walk_test-returns-in-Ok-walk_scalar
-walk_test-returns-in-Ok-walk_scalar t c = test_end _ _ _ _ _ _ _ _ _ _ _ _ c.mark-mark.ensures _ _ c.in-Ok.ensures c.in-Ok-walk_scalar.ensures c.close_scalar.ensures
+walk_test-returns-in-Ok-walk_scalar t c = test_end _ _ _ _ _ _ _ _ _ _ _ _ _ c.mark-mark.ensures _ _ c.in-Ok.ensures c.in-Ok-walk_scalar.ensures c.close_scalar.ensures
 
 pub walk_test-returns-in-Err-walk_scalar : goal.walk_test-returns-in-Err-walk_scalar
-walk_test-returns-in-Err-walk_scalar t c = test_err _ _ _ _ _ _ _ _ _ _ _ _ c.in-Ok.ensures c.in-Err-walk_scalar.ensures
+walk_test-returns-in-Err-walk_scalar t c = test_err _ _ _ _ _ _ _ _ _ _ _ _ _ c.in-Ok.ensures c.in-Err-walk_scalar.ensures
 
 pub walk_while-returns-in-Err : goal.walk_while-returns-in-Err
-walk_while-returns-in-Err t c = unentered _ _ _ _ _ _ _ _ _ _ c.in-Err.ensures.entered
+walk_while-returns-in-Err t c = unentered _ _ _ _ _ _ _ _ _ _ _ c.in-Err.ensures.entered
 
 pub walk_while-returns-in-Err-walk_test : goal.walk_while-returns-in-Err-walk_test
-walk_while-returns-in-Err-walk_test t c = while_test_err _ _ _ _ _ _ _ _ _ _ _ c.in-Ok.ensures.entered c.in-Err-walk_test.ensures
+walk_while-returns-in-Err-walk_test t c = while_test_err _ _ _ _ _ _ _ _ _ _ _ _ c.in-Ok.ensures.entered c.in-Err-walk_test.ensures
 
 pub walk_while-returns-in-Err-bind : goal.walk_while-returns-in-Err-bind
-walk_while-returns-in-Err-bind t c = while_unbound _ _ _ _ _ _ c.enter.new.state c.walk_test.new.state c.in-Ok.entered c.bind.new.work c.in-Ok-walk_test.c _ _ c.in-Ok.ensures.entered c.in-Err-bind.ensures
+walk_while-returns-in-Err-bind t c = while_unbound _ _ _ _ _ _ _ c.enter.new.state c.walk_test.new.state c.in-Ok.entered c.bind.new.work c.in-Ok-walk_test.c _ _ c.in-Ok.ensures.entered c.in-Err-bind.ensures
 
 pub walk_while-returns-in-Ok-None : goal.walk_while-returns-in-Ok-None
-walk_while-returns-in-Ok-None t c = while_differs _ _ _ _ _ _ c.enter.new.state c.walk_test.new.state c.in-Ok.entered c.bind.new.work _ _ _ _ c.in-Ok.ensures.steps c.in-Ok-walk_test.ensures c.in-Ok-bind.ensures (blocked_as c.in-Ok-None.field-0-is c.in-Ok-None.ensures)
+walk_while-returns-in-Ok-None t c = while_differs _ _ _ _ _ _ _ c.enter.new.state c.walk_test.new.state c.in-Ok.entered c.bind.new.work _ _ _ _ c.in-Ok.ensures.steps c.in-Ok-walk_test.ensures c.in-Ok-bind.ensures (blocked_as c.in-Ok-None.field-0-is c.in-Ok-None.ensures)
 
 pub walk_while-returns-in-Err-walk_block : goal.walk_while-returns-in-Err-walk_block
-walk_while-returns-in-Err-walk_block t c = while_body_err _ _ _ _ _ _ c.enter.new.state c.walk_test.new.state c.in-Ok.entered c.bind.new.work _ _ _ _ _ _ c.in-Ok.ensures.entered c.in-Ok-walk_test.ensures c.in-Ok-bind.ensures c.in-Err-walk_block.ensures
+walk_while-returns-in-Err-walk_block t c = while_body_err _ _ _ _ _ _ _ c.enter.new.state c.walk_test.new.state c.in-Ok.entered c.bind.new.work _ _ _ _ _ _ c.in-Ok.ensures.entered c.in-Ok-walk_test.ensures c.in-Ok-bind.ensures c.in-Err-walk_block.ensures
 
 pub walk_while-returns : goal.walk_while-returns
-walk_while-returns t c = while_end _ _ _ _ _ _ c.enter.new.state c.walk_test.new.state c.in-Ok.entered c.bind.new.work _ _ _ _ _ _ _ c.mark-mark.ensures c.in-Ok.ensures.steps c.in-Ok.ensures.entered c.in-Ok-walk_test.ensures c.in-Ok-bind.ensures (blocked_as c.in-Ok-Some.field-0-is c.in-Ok-Some.ensures) c.give_while.ensures
+walk_while-returns t c = while_end _ _ _ _ _ _ _ c.enter.new.state c.walk_test.new.state c.in-Ok.entered c.bind.new.work _ _ _ _ _ _ _ c.mark-mark.ensures c.in-Ok.ensures.steps c.in-Ok.ensures.entered c.in-Ok-walk_test.ensures c.in-Ok-bind.ensures (blocked_as c.in-Ok-Some.field-0-is c.in-Ok-Some.ensures) c.give_while.ensures
 
 pub walk_job-returns-then-level-ge-MOST_DEPTH : goal.walk_job-returns-then-level-ge-MOST_DEPTH
 walk_job-returns-then-level-ge-MOST_DEPTH t c = λ gs s e ready. not_applied no_memory
@@ -354,40 +352,40 @@ pub walk_loop-returns-in-Err-walk_first : goal.walk_loop-returns-in-Err-walk_fir
 walk_loop-returns-in-Err-walk_first t c = λ lo q. loop_tried_err _ _ _ lo _ _ _ q c.in-Ok.ensures _ _ _ _ _ c.in-Ok-walk.ensures c.in-Err-walk_first.ensures
 
 pub walk_loop-returns-in-Ok-Agree-walk_turns : goal.walk_loop-returns-in-Ok-Agree-walk_turns
-walk_loop-returns-in-Ok-Agree-walk_turns t c = λ lo q. loop_looped _ _ _ lo _ _ _ q c.in-Ok.ensures _ _ _ _ (packed_first _ _ _ _ _ _ _ _ _ _ _ _ (tried_as _ c.in-Ok-Differ.field-0-is c.in-Ok-Differ.ensures) c.in-Ok-walk.ensures c.in-Ok-packed.ensures) (looped_as _ c.in-Ok-Agree-walk_turns.field-0-is c.in-Ok-Agree-walk_turns.ensures)
+walk_loop-returns-in-Ok-Agree-walk_turns t c = λ lo q. loop_looped _ _ _ lo _ _ _ q c.in-Ok.ensures _ _ _ _ (packed_first _ _ _ _ _ _ _ _ _ _ _ _ _ (tried_as _ c.in-Ok-Differ.field-0-is c.in-Ok-Differ.ensures) c.in-Ok-walk.ensures c.in-Ok-packed.ensures) (looped_as _ c.in-Ok-Agree-walk_turns.field-0-is c.in-Ok-Agree-walk_turns.ensures)
 
 pub walk_loop-returns-in-Err-walk_turns : goal.walk_loop-returns-in-Err-walk_turns
-walk_loop-returns-in-Err-walk_turns t c = λ lo q. loop_turns_err _ _ _ lo _ _ _ q c.in-Ok.ensures _ _ _ _ _ (packed_first _ _ _ _ _ _ _ _ _ _ _ _ (tried_as _ c.in-Ok-Differ.field-0-is c.in-Ok-Differ.ensures) c.in-Ok-walk.ensures c.in-Ok-packed.ensures) c.in-Err-walk_turns.ensures
+walk_loop-returns-in-Err-walk_turns t c = λ lo q. loop_turns_err _ _ _ lo _ _ _ q c.in-Ok.ensures _ _ _ _ _ (packed_first _ _ _ _ _ _ _ _ _ _ _ _ _ (tried_as _ c.in-Ok-Differ.field-0-is c.in-Ok-Differ.ensures) c.in-Ok-walk.ensures c.in-Ok-packed.ensures) c.in-Err-walk_turns.ensures
 
 pub walk_first-returns-then-packs : goal.walk_first-returns-then-packs
 walk_first-returns-then-packs t c = has_to_pack refl refl
 
 pub walk_first-returns-in-Ok-Agree : goal.walk_first-returns-in-Ok-Agree
-walk_first-returns-in-Ok-Agree t c = tried_looped _ _ _ _ _ _ _ _ (looped_as _ c.in-Ok-Agree.field-0-is c.in-Ok-Agree.ensures)
+walk_first-returns-in-Ok-Agree t c = tried_looped _ _ _ _ _ _ _ _ _ (looped_as _ c.in-Ok-Agree.field-0-is c.in-Ok-Agree.ensures)
 
 pub walk_first-returns-in-Err : goal.walk_first-returns-in-Err
-walk_first-returns-in-Err t c = tried_err _ _ _ _ _ _ _ _ _ c.in-Err.ensures
+walk_first-returns-in-Err t c = tried_err _ _ _ _ _ _ _ _ _ _ c.in-Err.ensures
 
 pub walk_first-again-requires : goal.walk_first-again-requires
-walk_first-again-requires t c = record { mark = turns_mark _ _ _ _ _ c.args.state.now _ _ c.mark-mark.ensures (looped_as _ c.in-Ok-Differ.field-0-is c.in-Ok-Differ.ensures) }
+walk_first-again-requires t c = record { mark = turns_mark _ _ _ _ _ _ c.args.state.now _ _ c.mark-mark.ensures (looped_as _ c.in-Ok-Differ.field-0-is c.in-Ok-Differ.ensures) }
 
 pub walk_first-returns-in-Err-again : goal.walk_first-returns-in-Err-again
 walk_first-returns-in-Err-again t c = not_tried (only_memory c.in-Err-again.ensures.err)
 
 pub walk_first-returns-in-Ok : goal.walk_first-returns-in-Ok
-walk_first-returns-in-Ok t c = tried_again _ _ _ _ _ c.args.state.now _ _ c.again.new.state c.mark-mark.ensures (looped_as _ c.in-Ok-Differ.field-0-is c.in-Ok-Differ.ensures) c.in-Ok.ensures.steps c.in-Ok.ensures.next
+walk_first-returns-in-Ok t c = tried_again _ _ _ _ _ _ c.args.state.now _ _ c.again.new.state c.mark-mark.ensures (looped_as _ c.in-Ok-Differ.field-0-is c.in-Ok-Differ.ensures) c.in-Ok.ensures.steps c.in-Ok.ensures.next
 
 pub walk_for-walk_block-requires : goal.walk_for-walk_block-requires
-walk_for-walk_block-requires t c = (omega arith, (c.requires.kept, (c.requires.level, turn_mark _ _ _ _ _ c.name.new.self _ _ _ c.mark-mark.ensures c.in-Ok-bind_turn.ensures)))
+walk_for-walk_block-requires t c = (omega arith, (c.requires.kept, (c.requires.level, turn_mark _ _ _ _ _ _ _ _ c.name.new.self _ _ _ c.mark-mark.ensures c.in-Ok-bind_turn.ensures)))
 
 pub walk_rows-walk_block-requires : goal.walk_rows-walk_block-requires
-walk_rows-walk_block-requires t c = (omega arith, (c.requires.kept, (c.requires.level, row_mark _ _ _ _ _ c.name.new.self _ _ _ c.mark-mark.ensures c.in-Ok-bind_row.ensures)))
+walk_rows-walk_block-requires t c = (omega arith, (c.requires.kept, (c.requires.level, row_mark _ _ _ _ _ _ _ _ c.name.new.self _ _ _ c.mark-mark.ensures c.in-Ok-bind_row.ensures)))
 
 pub walk_while-walk_block-requires : goal.walk_while-walk_block-requires
-walk_while-walk_block-requires t c = (omega arith, (c.requires.kept, (c.requires.level, while_mark _ _ _ _ _ _ c.enter.new.state _ _ c.bind.new.work _ _ c.mark-mark.ensures c.in-Ok-walk_test.ensures c.in-Ok-bind.ensures)))
+walk_while-walk_block-requires t c = (omega arith, (c.requires.kept, (c.requires.level, while_mark _ _ _ _ _ _ _ c.enter.new.state _ _ c.bind.new.work _ _ c.mark-mark.ensures c.in-Ok-walk_test.ensures c.in-Ok-bind.ensures)))
 
 pub walk_test-close_scalar-requires : goal.walk_test-close_scalar-requires
-walk_test-close_scalar-requires t c = record { mark = test_mark _ _ _ _ _ _ c.args.state.now c.bind.new.work _ _ _ _ c.mark-mark.ensures c.in-Ok.ensures c.in-Ok-walk_scalar.ensures }
+walk_test-close_scalar-requires t c = record { mark = test_mark _ _ _ _ _ _ _ c.args.state.now c.bind.new.work _ _ _ _ c.mark-mark.ensures c.in-Ok.ensures c.in-Ok-walk_scalar.ensures }
 
 pub apply_to-returns-in-Ok-Known : goal.apply_to-returns-in-Ok-Known
 apply_to-returns-in-Ok-Known t c = primitive_known _ _ _ _ _ c.args.state.now c.apply_primitive.new.work _ (primitive_as c.args.context.now _ _ _ _ c.args.state.now c.apply_primitive.new.work _ _ c.in-Ok-Known.field-0-is c.in-Ok-Known.ensures)

@@ -1,0 +1,11 @@
+pub mod Lists
+pub mod Layers
+pub mod Heads
+pub mod Once
+pub mod Homes
+pub mod Apart
+pub mod Sizings
+pub mod Making
+pub mod Fielding
+pub mod Marking
+pub mod Examples

@@ -1,0 +1,16 @@
+pub mod TableForms
+pub mod RowLists
+pub mod Sorting
+pub mod ShapeForms
+pub mod KnownForms
+pub mod StandingForms
+pub mod PlaceForms
+pub mod SearchForms
+pub mod FindingForms
+pub mod ToldForms
+pub mod OrderForms
+pub mod TestForms
+pub mod ArgumentForms
+pub mod TellForms
+pub mod AskForms
+pub mod CallForms

@@ -1,0 +1,14 @@
+use Rattle.std.proofs.Common.{◌≡◌}
+use Rattle.fut_meaning.specs.Found.{Sizing}
+use Rattle.size_arena.specs.Trees.{variable_of}
+use Rattle.unfold.specs.declared.known.Entered.{size-Entered}
+use Rattle.unfold.specs.Held.{entered_of}
+use Rattle.unfold.specs.Telling.{found}
+use Rattle.told_rows.specs.Tables.{Tells}
+use Rattle.told_rows.proofs.searching.type_found.Given as goal
+
+abbrev pub invariant-loop-current : goal.invariant-loop-current
+invariant-loop-current l = (Z : Sizing) → Tells l.sizes Z → (found Z (entered_of l.entered)).type (variable_of l.variable) ≡ (found Z (entered_of l.current)).type (variable_of l.variable)
+
+abbrev pub decreases-loop-current : goal.decreases-loop-current
+decreases-loop-current l = size-Entered l.current

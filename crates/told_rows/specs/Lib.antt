@@ -1,0 +1,6 @@
+pub mod Tables
+pub mod Shapes
+pub mod Places
+pub mod Findings
+pub mod Arguments
+pub mod Calls
