@@ -11,10 +11,10 @@ use Rattle.fut_meaning.specs.Outcomes.{Out, Wrong, Then, the}
 use Rattle.fut_meaning.specs.Arrays.{Making}
 use Rattle.fut_meaning.specs.Jobs.{Job}
 use Rattle.fut_meaning.specs.Datums.{Datum, as_value, takes, function_argument}
-use Rattle.fut_meaning.specs.Values.{Value, Scalar_value, Tuple_value, Record_value, Array_value, Closure, Primitive_value, Env, base, bind, entered, Task, Evaluate, Call, Meanings, listed}
+use Rattle.fut_meaning.specs.Values.{Value, Scalar_value, Tuple_value, Record_value, Array_value, Closure, Primitive_value, Env, bind, entered, Task, Evaluate, Call, Meanings, listed}
 use Rattle.fut_meaning.specs.Operations.{report, operated_by, making, parameters_of, arity, is_of_scalars}
 use Rattle.fut_meaning.specs.Meaning.{Lang, plain, unrestricted, row_told, Of_literal, counts, placed, under, called, called_on, no_function, job_of, given, first_node, call, looped, step, Means, Ever, ever}
-use Rattle.fut_meaning.specs.Programs.{Top, Tops, Names, is_reached, evaluated, applied_to, Program_means}
+use Rattle.fut_meaning.specs.Programs.{Top, Tops, Names, is_reached, Seen, seeing, below_names, name_node, evaluated, applied_to, Program_means}
 use Rattle.fut_meaning.specs.Flats.{flat_names, flat_tops}
 use Rattle.fut_meaning.specs.Claims.{FittedAddsNothing, FittedLosesNothing}
 use Rattle.fut_meaning.proofs.Fitting.{Fitted, Goes_wrong, misfits, fitted_same, fitted_then, fitted_first, fitted_value, fitted_report, fitted_choose, fitted_each_of, fitted_turns, fitted_while}
@@ -107,10 +107,10 @@ module _ {P B S : Type 0} (L : Lang P B S) (tight : Bool) (budget : ℕ) where
   fitted_ever t = record { kept = ever_kept t; lost = ever_lost t }
 
 module _ {P B S : Type 0} (N : Names P B S) (tight : Bool) (budget entry : ℕ) where
-  fitted_evaluated : (ds : List (Top P B S)) (tops : Tops P B S) → Fitted (evaluated N (plain tight) budget entry ds tops) (evaluated N (unrestricted tight true) budget entry ds tops)
-  fitted_evaluated [] tops = fitted_same _
-  fitted_evaluated (d ∷ ds) tops =
-      fitted_choose (is_reached N.is_use_of entry ds d.number) _ _ _ _ (fitted_then _ _ _ _ (fitted_ever (N.lang tops) tight budget (Evaluate (base d.sees) d.first d.value)) (λ v. fitted_evaluated ds ((d.number, v) ∷ tops))) (fitted_evaluated ds tops)
+  fitted_evaluated : (ds : List (Top P B S)) (seen : Seen P B S) (tops : Tops P B S) → Fitted (evaluated N (plain tight) budget entry ds seen tops) (evaluated N (unrestricted tight true) budget entry ds seen tops)
+  fitted_evaluated [] seen tops = fitted_same _
+  fitted_evaluated (d ∷ ds) seen tops =
+      fitted_choose (is_reached N.is_use_of N.told.sizes entry ds d.number) _ _ _ _ (fitted_then _ _ _ _ (fitted_ever (N.lang tops) tight budget (Evaluate (below_names seen d.sees) d.first d.value)) (λ v. fitted_evaluated ds (seeing (name_node d) v seen) ((d.number, v) ∷ tops))) (fitted_evaluated ds seen tops)
 
   fitted_applied : (R T : Meanings P B S) → ((t : Task P B S) → Fitted (R t) (T t)) → (vs : List (Value P B S)) (f : Value P B S) → Fitted (applied_to N R vs f) (applied_to N T vs f)
   fitted_applied R T hr [] f = fitted_same _
@@ -118,7 +118,7 @@ module _ {P B S : Type 0} (N : Names P B S) (tight : Bool) (budget entry : ℕ) 
 
   pub fitted_program : (ds : List (Top P B S)) (arguments : List (Value P B S)) → Fitted (Program_means N (plain tight) budget ds entry arguments) (Program_means N (unrestricted tight true) budget ds entry arguments)
   fitted_program ds arguments =
-      fitted_then _ _ _ _ (fitted_evaluated ds []) (λ tops. fitted_then _ _ _ _ (fitted_same _) (λ f. fitted_applied (Ever (N.lang tops) (plain tight) budget) (Ever (N.lang tops) (unrestricted tight true) budget) (fitted_ever (N.lang tops) tight budget) arguments f))
+      fitted_then _ _ _ _ (fitted_evaluated ds [] []) (λ tops. fitted_then _ _ _ _ (fitted_same _) (λ f. fitted_applied (Ever (N.lang tops) (plain tight) budget) (Ever (N.lang tops) (unrestricted tight true) budget) (fitted_ever (N.lang tops) tight budget) arguments f))
 
 pub fitted_adds_nothing : FittedAddsNothing
 fitted_adds_nothing told tight budget ds entry arguments o f x = (fitted_program (flat_names told) tight budget entry.0 (flat_tops 0 ds) arguments).kept o f x

@@ -59,7 +59,7 @@ worth_same s_array = refl
 worth_same (s_closure a b c t h) = refl
 worth_same (s_primitive s) = refl
 
-function_same : {zs : Option Sizing} {v : SourceValue} {w : FlatValue} → Same zs v w → is_function v ≡ is_function w
+pub function_same : {zs : Option Sizing} {v : SourceValue} {w : FlatValue} → Same zs v w → is_function v ≡ is_function w
 function_same s_scalar = refl
 function_same (s_tuple s) = refl
 function_same (s_record s) = refl

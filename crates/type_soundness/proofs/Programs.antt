@@ -1,5 +1,5 @@
 -- A typed program has an outcome and never goes wrong: its definitions are evaluated to values of all types at which they may be used.
-use Rattle.std.proofs.Common.{◌≡◌, Bool, true, false, ◌||◌, ◌&&◌, cond, ℕ, ◌+◌, ◌≤◌, ◌<◌, refl, sym, ap, ◌∙◌, subst, arith, List, [], ◌∷◌, map, nat_eq, eq-eqb, ne_eqb}
+use Rattle.std.proofs.Common.{◌≡◌, Bool, true, false, ◌||◌, ◌&&◌, cond, ℕ, ◌+◌, ◌-◌, ◌≤◌, ◌<◌, refl, sym, ap, ◌∙◌, subst, arith, List, [], ◌∷◌, map, Option, nat_eq, eq-eqb, ne_eqb}
 use mathlib.Core.Logic.{inl, inr}
 use native.Mathlib.Decide.{ℕ_discrete}
 use Rattle.fut_scalar.specs.declared.place.BindId.{BindId}
@@ -24,11 +24,11 @@ use Rattle.fut_typing.specs.Exact.{scope_behind}
 use Rattle.fut_typing.proofs.Cong.{within_no}
 use Rattle.fut_typing.proofs.Local.{AllLocal, all_local_more, local_parameters}
 use Rattle.fut_typing.proofs.Exact.{behind_local}
-use Rattle.fut_meaning.specs.Found.{Told, unsized}
+use Rattle.fut_meaning.specs.Found.{Told, Sizing, unsized}
 use Rattle.fut_meaning.specs.Outcomes.{Val, Fail, Wrong, the, Then, choose}
 use Rattle.fut_meaning.specs.Values.{base, Evaluate}
 use Rattle.fut_meaning.specs.Meaning.{plain, Ever}
-use Rattle.fut_meaning.specs.Programs.{top, with_sizes, with_parameters, names_of, all_names_of, names_of_turns, has_use, have_use, turns_have_use, is_reached, evaluated, applied_to}
+use Rattle.fut_meaning.specs.Programs.{Seen, seeing, below_names, top, with_sizes, with_parameters, names_of, all_names_of, names_of_turns, has_use, have_use, turns_have_use, is_reached, evaluated, applied_to}
 use Rattle.fut_meaning.specs.Flats.{FlatValue, FlatTop, FlatTops, FlatMode, flat_look, is_flat_use, flat_names, flat_tops, named_terms, Flat_means}
 use Rattle.fut_meaning.specs.Claims.{HasOut, Safe, Some_outcome, Correct}
 use Rattle.fut_meaning.proofs.Correct.{correct_exact, correct_then, correct_as}
@@ -39,7 +39,7 @@ use Rattle.type_soundness.specs.Meant.{Use_meant, Meant, All_meant, Turns_meant,
 use Rattle.type_soundness.specs.Environments.{Name_fits, Env_fits}
 use Rattle.type_soundness.specs.Programs.{Definitions_told, None_has, One_each, Arguments_fit, Result_fits, Is_typed, Is_sized, Never_wrong, Has_outcome}
 use Rattle.type_soundness.proofs.Growing.{grows_self, fits_grow}
-use Rattle.type_soundness.proofs.Environments.{env_grows, env_moves, env_types}
+use Rattle.type_soundness.proofs.Environments.{env_entered, env_grows, env_moves, env_types}
 use Rattle.type_soundness.proofs.Sized.{Sized, All_sized, Turns_sized, Definitions_sized, definitions_sized, definitions_meant_formed, definitions_meant_apart}
 use Rattle.type_soundness.proofs.Using.{function_fits}
 use Rattle.type_soundness.proofs.Literals.{literal_kept}
@@ -118,13 +118,16 @@ module _ (P : ℕ → Type 0) where
       turn_sized_uses (Over p e) bs cs m h = sized_uses e bs m h
       turn_sized_uses (While c) bs cs m h = sized_uses c cs m h
 
+abbrev FlatSeen : Type 0
+FlatSeen = Seen Ref BindId (Unit {0})
+
 -- the definitions that are left, from a number on
 abbrev pub tops_of : ℕ → List Definition → List FlatTop
 tops_of lo ds = flat_tops lo (map (λ (d : Definition). (d.bind, term_of d.value.now)) ds)
 
 -- a name is reached from the entry, through these definitions
-abbrev pub Reached : BindId → ℕ → List Definition → ℕ → Type 0
-Reached entry lo ds k = is_reached is_flat_use entry.0 (tops_of lo ds) k ≡ true
+abbrev pub Reached : Option Sizing → BindId → ℕ → List Definition → ℕ → Type 0
+Reached sizes entry lo ds k = is_reached is_flat_use sizes entry.0 (tops_of lo ds) k ≡ true
 
 module _ (N : Names) (are : AreNames N) (places : Kind) (K : Kinds) (a : Sub) (T : Told) (M : FlatMode) (budget : ℕ) (total : Bool) (free : Is_free M budget total) (wide : level kind.Data ≤ level places) (entry : BindId) where
   -- the numbers of sizes
@@ -133,6 +136,11 @@ module _ (N : Names) (are : AreNames N) (places : Kind) (K : Kinds) (a : Sub) (T
 
   abbrev In_tops : FlatTops → (ℕ → Type 0) → Scope → Type 0
   In_tops tops P scope = Env_fits N T M budget total tops P scope K a (base tt)
+
+  -- what was entered is no name
+  seen_fits : (P : ℕ → Type 0) (tops : FlatTops) (scope : Scope) (seen : FlatSeen) → In_tops tops P scope → Env_fits N T M budget total tops P scope K a (below_names seen tt)
+  seen_fits P tops scope [] h = h
+  seen_fits P tops scope (d ∷ ds) h = env_entered N T M budget total P K tops d.0 d.1 scope a (below_names ds tt) (seen_fits P tops scope ds h)
 
   -- the definitions that were evaluated are not among those that are left
   abbrev Left : FlatTops → List Definition → Type 0
@@ -145,13 +153,13 @@ module _ (N : Names) (are : AreNames N) (places : Kind) (K : Kinds) (a : Sub) (T
     abbrev whole : Scheme
     whole = definition_scheme N places (defined d) lo scope
 
-    value_runs : (P : ℕ → Type 0) (tops : FlatTops) (c other : Sub) → ((n : ℕ) → n < lo → other n ≡ a n) → ((m : ℕ) → Literal value (lo + 1) m → other m ≡ a m) → whole.typed c K other → Heads_sized S (parameters d.heads.now) → Sized S P value → Literals_told T.integer_at a value (lo + 1)
-        → lo + (1 + numbers value) < widest → In_tops tops P scope → Correct total (Fits N T M budget total (other lo) tops) (Ever (lang T tops) M budget (Evaluate (base tt) (1 + lo) value))
-    value_runs P tops c other outside literals typed sizes meant told small h =
+    value_runs : (P : ℕ → Type 0) (tops : FlatTops) (seen : FlatSeen) (c other : Sub) → ((n : ℕ) → n < lo → other n ≡ a n) → ((m : ℕ) → Literal value (lo + 1) m → other m ≡ a m) → whole.typed c K other → Heads_sized S (parameters d.heads.now) → Sized S P value → Literals_told T.integer_at a value (lo + 1)
+        → lo + (1 + numbers value) < widest → In_tops tops P scope → Correct total (Fits N T M budget total (other lo) tops) (Ever (lang T tops) M budget (Evaluate (below_names seen tt) (1 + lo) value))
+    value_runs P tops seen c other outside literals typed sizes meant told small h =
         correct_as (Fits N T M budget total (other (lo + 1)) tops) (Fits N T M budget total (other lo) tops) _
-        (subst (λ n. Correct total (Fits N T M budget total (other (lo + 1)) tops) (Ever (lang T tops) M budget (Evaluate (base tt) n value))) (let z : lo + 1 ≡ 1 + lo = omega arith in z)
-        (running N are T M budget total P places K free wide value (lo + 1) _ other tops (base tt) (local_parameters (λ n. n < lo + 1) (parameters d.heads.now) c scope (all_local_more (λ n. n < lo) (λ n. n < lo + 1) scope (λ n p. omega (arith, p)) all)) typed.0.1 meant (λ m l. literals m l ∙ told m l) (omega (arith, small))
-        (env_types N T M budget total P K tops (parameters d.heads.now) c scope other (base tt) sizes (env_moves N T M budget total P K tops scope lo a other (base tt) all outside h))))
+        (subst (λ n. Correct total (Fits N T M budget total (other (lo + 1)) tops) (Ever (lang T tops) M budget (Evaluate (below_names seen tt) n value))) (let z : lo + 1 ≡ 1 + lo = omega arith in z)
+        (running N are T M budget total P places K free wide value (lo + 1) _ other tops (below_names seen tt) (local_parameters (λ n. n < lo + 1) (parameters d.heads.now) c scope (all_local_more (λ n. n < lo) (λ n. n < lo + 1) scope (λ n p. omega (arith, p)) all)) typed.0.1 meant (λ m l. literals m l ∙ told m l) (omega (arith, small))
+        (env_types N T M budget total P K tops (parameters d.heads.now) c scope other (below_names seen tt) sizes (env_moves N T M budget total P K tops scope lo a other (below_names seen tt) all outside (seen_fits P tops scope seen h)))))
         (λ w k. subst (λ t. Fits N T M budget total t tops w) (sym typed.1) k)
 
     literal_stays : (other : Sub) → ((n : ℕ) → lo ≤ n → n < lo + (1 + numbers value) → whole.free n ≡ false → other n ≡ a n) → (m : ℕ) → Literal value (lo + 1) m → other m ≡ a m
@@ -163,17 +171,17 @@ module _ (N : Names) (are : AreNames N) (places : Kind) (K : Kinds) (a : Sub) (T
         neither false y e k = k
 
     -- its value is of each type of its uses
-    each_use : (P : ℕ → Type 0) (tops : FlatTops) → Generalised places whole K a → Heads_sized S (parameters d.heads.now) → Sized S P value → Literals_told T.integer_at a value (lo + 1) → lo + (1 + numbers value) < widest → In_tops tops P scope
-        → Correct total (λ w. (t : Ty) → Reused places whole lo K a t → Fits N T M budget total t tops w) (Ever (lang T tops) M budget (Evaluate (base tt) (1 + lo) value))
-    each_use P tops g sizes meant told small h = record { safe = each; some = own.some }
+    each_use : (P : ℕ → Type 0) (tops : FlatTops) (seen : FlatSeen) → Generalised places whole K a → Heads_sized S (parameters d.heads.now) → Sized S P value → Literals_told T.integer_at a value (lo + 1) → lo + (1 + numbers value) < widest → In_tops tops P scope
+        → Correct total (λ w. (t : Ty) → Reused places whole lo K a t → Fits N T M budget total t tops w) (Ever (lang T tops) M budget (Evaluate (below_names seen tt) (1 + lo) value))
+    each_use P tops seen g sizes meant told small h = record { safe = each; some = own.some }
       where
-        own : Correct total (Fits N T M budget total (a lo) tops) (Ever (lang T tops) M budget (Evaluate (base tt) (1 + lo) value))
-        own = value_runs P tops (own_types places (parameters d.heads.now)) a (λ n p. refl) (λ m l. refl) g.0 sizes meant told small h
+        own : Correct total (Fits N T M budget total (a lo) tops) (Ever (lang T tops) M budget (Evaluate (below_names seen tt) (1 + lo) value))
+        own = value_runs P tops seen (own_types places (parameters d.heads.now)) a (λ n p. refl) (λ m l. refl) g.0 sizes meant told small h
 
-        each : Safe (λ w. (t : Ty) → Reused places whole lo K a t → Fits N T M budget total t tops w) (Ever (lang T tops) M budget (Evaluate (base tt) (1 + lo) value))
+        each : Safe (λ w. (t : Ty) → Reused places whole lo K a t → Fits N T M budget total t tops w) (Ever (lang T tops) M budget (Evaluate (below_names seen tt) (1 + lo) value))
         each (Val w) f y = λ t u.
             let x = u.2.0 in
-            let is = value_runs P tops u.0 x.other (λ n p. x.outside n (inl p)) (literal_stays x.other x.kept) x.typed sizes meant told small h in
+            let is = value_runs P tops seen u.0 x.other (λ n p. x.outside n (inl p)) (literal_stays x.other x.kept) x.typed sizes meant told small h in
             subst (λ z. Fits N T M budget total z tops w) (sym u.2.1) (is.safe (Val w) f y)
         each (Fail r) f y = tt
         each Wrong f y = own.safe Wrong f y
@@ -209,25 +217,25 @@ module _ (N : Names) (are : AreNames N) (places : Kind) (K : Kinds) (a : Sub) (T
   abbrev Ends : List Definition → ℕ → Scope → FlatTops → Type 0
   Ends ds lo scope tops = In_tops tops (λ k. nat_eq k entry.0 ≡ true) (scope_behind N places (map defined ds) lo scope)
 
-  evaluated_fit : (ds : List Definition) (lo : ℕ) (scope : Scope) (tops : FlatTops) → AllLocal (λ n. n < lo) scope → Definitions_typed N places (map defined ds) lo scope K a → Definitions_sized S (map defined ds) → Definitions_told T.integer_at a (map defined ds) lo → One_each ds
-      → lo + program_numbers (map defined ds) < widest → Left tops ds → In_tops tops (Reached entry lo ds) scope → Correct total (Ends ds lo scope) (evaluated (flat_names T) M budget entry.0 (tops_of lo ds) tops)
+  evaluated_fit : (ds : List Definition) (lo : ℕ) (scope : Scope) (seen : FlatSeen) (tops : FlatTops) → AllLocal (λ n. n < lo) scope → Definitions_typed N places (map defined ds) lo scope K a → Definitions_sized S (map defined ds) → Definitions_told T.integer_at a (map defined ds) lo → One_each ds
+      → lo + program_numbers (map defined ds) < widest → Left tops ds → In_tops tops (Reached T.sizes entry lo ds) scope → Correct total (Ends ds lo scope) (evaluated (flat_names T) M budget entry.0 (tops_of lo ds) seen tops)
   unfolding flat_tops flat_names
-  evaluated_fit [] lo scope tops all typed meant told once small left h = correct_exact (Ends [] lo scope) 0 (Val tops) h
-  evaluated_fit (d ∷ ds) lo scope tops all typed meant told once small left h = known (is_reached is_flat_use entry.0 (tops_of (lo + (1 + numbers (term_of d.value.now))) ds) d.bind.0) refl
-      (λ scope tops all typed left h. evaluated_fit ds (lo + (1 + numbers (term_of d.value.now))) scope tops all typed meant.2 told.1 once.1 (omega (arith, small)) left h)
+  evaluated_fit [] lo scope seen tops all typed meant told once small left h = correct_exact (Ends [] lo scope) 0 (Val tops) h
+  evaluated_fit (d ∷ ds) lo scope seen tops all typed meant told once small left h = known (is_reached is_flat_use T.sizes entry.0 (tops_of (lo + (1 + numbers (term_of d.value.now))) ds) d.bind.0) refl
+      (λ scope seen tops all typed left h. evaluated_fit ds (lo + (1 + numbers (term_of d.value.now))) scope seen tops all typed meant.2 told.1 once.1 (omega (arith, small)) left h)
     where
-      known : (b : Bool) → is_reached is_flat_use entry.0 (tops_of (lo + (1 + numbers (term_of d.value.now))) ds) d.bind.0 ≡ b
-          → ((scope : Scope) (tops : FlatTops) → AllLocal (λ n. n < lo + (1 + numbers (term_of d.value.now))) scope → Definitions_typed N places (map defined ds) (lo + (1 + numbers (term_of d.value.now))) scope K a → Left tops ds → In_tops tops (Reached entry (lo + (1 + numbers (term_of d.value.now))) ds) scope
-          → Correct total (Ends ds (lo + (1 + numbers (term_of d.value.now))) scope) (evaluated (flat_names T) M budget entry.0 (tops_of (lo + (1 + numbers (term_of d.value.now))) ds) tops))
-          → Correct total (Ends (d ∷ ds) lo scope) (choose b (Then (Ever (lang T tops) M budget (Evaluate (base tt) (1 + lo) (term_of d.value.now))) (λ v. evaluated (flat_names T) M budget entry.0 (tops_of (lo + (1 + numbers (term_of d.value.now))) ds) ((d.bind.0, v) ∷ tops)))
-          (evaluated (flat_names T) M budget entry.0 (tops_of (lo + (1 + numbers (term_of d.value.now))) ds) tops))
+      known : (b : Bool) → is_reached is_flat_use T.sizes entry.0 (tops_of (lo + (1 + numbers (term_of d.value.now))) ds) d.bind.0 ≡ b
+          → ((scope : Scope) (seen : FlatSeen) (tops : FlatTops) → AllLocal (λ n. n < lo + (1 + numbers (term_of d.value.now))) scope → Definitions_typed N places (map defined ds) (lo + (1 + numbers (term_of d.value.now))) scope K a → Left tops ds → In_tops tops (Reached T.sizes entry (lo + (1 + numbers (term_of d.value.now))) ds) scope
+          → Correct total (Ends ds (lo + (1 + numbers (term_of d.value.now))) scope) (evaluated (flat_names T) M budget entry.0 (tops_of (lo + (1 + numbers (term_of d.value.now))) ds) seen tops))
+          → Correct total (Ends (d ∷ ds) lo scope) (choose b (Then (Ever (lang T tops) M budget (Evaluate (below_names seen tt) (1 + lo) (term_of d.value.now))) (λ v. evaluated (flat_names T) M budget entry.0 (tops_of (lo + (1 + numbers (term_of d.value.now))) ds) (seeing ((1 + lo) - 1) v seen) ((d.bind.0, v) ∷ tops)))
+          (evaluated (flat_names T) M budget entry.0 (tops_of (lo + (1 + numbers (term_of d.value.now))) ds) seen tops))
       known true e rec =
           correct_then (λ w. (t : Ty) → Reused places (definition_scheme N places (defined d) lo scope) lo K a t → Fits N T M budget total t tops w) (Ends (d ∷ ds) lo scope) _ _
-          (each_use d ds lo scope all (Reached entry lo (d ∷ ds)) tops typed.0 meant.0.0 (sized_uses (Reached entry lo (d ∷ ds)) S (term_of d.value.now) [] meant.1 (λ k u. or_left _ _ (both _ _ e u))) told.0 (omega (arith, small)) h)
-          (λ w each. rec (with_uses d.bind.0 (Reused places (definition_scheme N places (defined d) lo scope) lo) scope) ((d.bind.0, w) ∷ tops) (behind_local N places (defined d) lo scope all) typed.1 (left_evaluated d ds lo scope all tops w once.0 left)
-          (behind_evaluated d ds lo scope all (Reached entry lo (d ∷ ds)) (Reached entry (lo + (1 + numbers (term_of d.value.now))) ds) tops w (λ k q. or_right _ _ q) left meant.0.1 each h))
-      known false e rec = rec (with_uses d.bind.0 (Reused places (definition_scheme N places (defined d) lo scope) lo) scope) tops (behind_local N places (defined d) lo scope all) typed.1 (λ k v x. (left k v x).1)
-          (behind_left d ds lo scope all (Reached entry lo (d ∷ ds)) (Reached entry (lo + (1 + numbers (term_of d.value.now))) ds) tops (λ k q. or_right _ _ q) (λ q. let z : true ≡ false = sym q ∙ e in cc) h)
+          (each_use d ds lo scope all (Reached T.sizes entry lo (d ∷ ds)) tops seen typed.0 meant.0.0 (sized_uses (Reached T.sizes entry lo (d ∷ ds)) S (term_of d.value.now) [] meant.1 (λ k u. or_left _ _ (both _ _ e (or_left _ _ u)))) told.0 (omega (arith, small)) h)
+          (λ w each. rec (with_uses d.bind.0 (Reused places (definition_scheme N places (defined d) lo scope) lo) scope) (seeing ((1 + lo) - 1) w seen) ((d.bind.0, w) ∷ tops) (behind_local N places (defined d) lo scope all) typed.1 (left_evaluated d ds lo scope all tops w once.0 left)
+          (behind_evaluated d ds lo scope all (Reached T.sizes entry lo (d ∷ ds)) (Reached T.sizes entry (lo + (1 + numbers (term_of d.value.now))) ds) tops w (λ k q. or_right _ _ q) left meant.0.1 each h))
+      known false e rec = rec (with_uses d.bind.0 (Reused places (definition_scheme N places (defined d) lo scope) lo) scope) seen tops (behind_local N places (defined d) lo scope all) typed.1 (λ k v x. (left k v x).1)
+          (behind_left d ds lo scope all (Reached T.sizes entry lo (d ∷ ds)) (Reached T.sizes entry (lo + (1 + numbers (term_of d.value.now))) ds) tops (λ k q. or_right _ _ q) (λ q. let z : true ≡ false = sym q ∙ e in cc) h)
 
   applied_fit : (ts : Tys) (u : Ty) (vs : List FlatValue) (tops : FlatTops) (f : FlatValue) → Fits N T M budget total (arrows ts u) tops f → Arguments_fit N T M budget total ts vs → Correct total (Result_fits N T M budget total u) (applied_to (flat_names T) (Ever (lang T tops) M budget) vs f)
   applied_fit none u [] tops f h k = correct_exact (Result_fits N T M budget total u) 0 (Val f) (tops, h)
@@ -268,8 +276,8 @@ module _ (N : Names) (are : AreNames N) (places : Kind) (K : Kinds) (a : Sub) (T
   correct : In_scope → Arguments_fit N T (plain tight) budget total ts vs → Correct total (Result_fits N T (plain tight) budget total u) (Flat_means T (plain tight) budget (named_terms flat) entry vs)
   unfolding flat_look
   correct used fit =
-      correct_then (Ends N are places K a T (plain tight) budget total (plain_free tight budget total) is.holds_data entry flat.definitions.now 0 nothing) (Result_fits N T (plain tight) budget total u) (evaluated (flat_names T) (plain tight) budget entry.0 (tops_of 0 flat.definitions.now) []) _
-      (evaluated_fit N are places K a T (plain tight) budget total (plain_free tight budget total) is.holds_data entry flat.definitions.now 0 nothing [] (λ b K x y t same h. absurd h) is.typed forms is.told is.once (let s = is.small in omega (arith, s)) (λ k v e. absurd (let z : Wrong ≡ Val v = e in cc)) (λ b p t h. absurd h))
+      correct_then (Ends N are places K a T (plain tight) budget total (plain_free tight budget total) is.holds_data entry flat.definitions.now 0 nothing) (Result_fits N T (plain tight) budget total u) (evaluated (flat_names T) (plain tight) budget entry.0 (tops_of 0 flat.definitions.now) [] []) _
+      (evaluated_fit N are places K a T (plain tight) budget total (plain_free tight budget total) is.holds_data entry flat.definitions.now 0 nothing [] [] (λ b K x y t same h. absurd h) is.typed forms is.told is.once (let s = is.small in omega (arith, s)) (λ k v e. absurd (let z : Wrong ≡ Val v = e in cc)) (λ b p t h. absurd h))
       (λ tops h. correct_then (Fitting tops) (Result_fits N T (plain tight) budget total u) (the (top tops entry.0)) _ (correct_exact (Fitting tops) 0 (top tops entry.0) (entry_fits tops used h))
       (λ f k. applied_fit N are places K a T (plain tight) budget total (plain_free tight budget total) is.holds_data entry ts u vs tops f k fit))
 

@@ -1,5 +1,5 @@
 -- What is asked of a program so that its walk is never lost, and the law.
-use Rattle.std.specs.Prelude.{ℕ, ◌<◌, Bool}
+use Rattle.std.specs.Prelude.{ℕ, ◌<◌, Bool, Option}
 use Rattle.fut_scalar.specs.declared.place.BindId.{BindId}
 use Rattle.fut_flat.specs.declared.program.Flat.{Flat}
 use Rattle.fut_types.specs.declared.Kind.TheVariants as kind
@@ -10,6 +10,7 @@ use Rattle.fut_typing.specs.Patterns.{arrows}
 use Rattle.fut_typing.specs.Program.{program_of, program_numbers, Program_typed}
 use Rattle.fut_typing.specs.Exact.{scope_behind}
 use Rattle.fut_meaning.specs.Flats.{flat_tops, named_terms}
+use Rattle.fut_meaning.specs.Found.{Sizing}
 use Rattle.fut_meaning.specs.Comes.{Program_lost}
 use Rattle.type_soundness.specs.Fits.{widest}
 use Rattle.type_soundness.specs.Formed.{Definitions_formed, Definitions_apart}
@@ -38,6 +39,6 @@ pub record Is_sized_walkable (N : Names) (K : Kinds) (a : Sub) (is_size : ℕ �
 -- from each entry that takes data and gives data
 abbrev pub Walks_never_lost : Type 0
 Walks_never_lost =
-    (N : Names) → AreNames N → (K : Kinds) (a : Sub) (is_size : ℕ → Bool) (flat : Flat) → Is_sized_walkable N K a is_size flat
+    (N : Names) → AreNames N → (K : Kinds) (a : Sub) (is_size : ℕ → Bool) (sizes : Option Sizing) (flat : Flat) → Is_sized_walkable N K a is_size flat
     → (entry : BindId) (ts : Tys) (u : Ty) → (scope_behind N kind.Data (program_of flat) 0 nothing).uses entry.0 K a (arrows ts u) → All_hold_data K ts → HasKind K kind.Data u
-    → Program_lost entry.0 (count ts) (flat_tops 0 (named_terms flat)) → ⊥
+    → Program_lost sizes entry.0 (count ts) (flat_tops 0 (named_terms flat)) → ⊥

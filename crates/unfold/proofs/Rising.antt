@@ -171,7 +171,7 @@ module _ {told : Told} where
       applied_rises a_none = numbered_none _
       applied_rises (a_more {n = n} {n1} {n2} {bs} {cs} p r) = numbered_append n n1 n2 bs cs (applies_rise p) (applied_rises r)
 
-  definitions_rise : {entry : ℕ} {tops end : Tops} {ds : List FlatTop} {n m : ℕ} {bs : Bindings} → Definitions_unfold told entry tops ds n bs end m → Numbered n bs m
+  definitions_rise : {entry : ℕ} {seen : Scope} {tops end : Tops} {ds : List FlatTop} {n m : ℕ} {bs : Bindings} → Definitions_unfold told entry seen tops ds n bs end m → Numbered n bs m
   definitions_rise d_none = numbered_none _
   definitions_rise (d_reached {n = n} {n1} {n2} {bs} {cs} q p r) = numbered_append n n1 n2 bs cs (unfolds_rise p) (definitions_rise r)
   definitions_rise (d_other q r) = definitions_rise r

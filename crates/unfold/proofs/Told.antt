@@ -107,7 +107,7 @@ module _ {sizes : Option Sizing} {d : Names Component} {n : ℕ} where
   worth_says (s_function h) = record { is = refl }
   worth_says (s_primitive h) = record { is = refl }
 
-  function_is : {s : Known} {v : FlatValue} → Stands sizes d n s v → is_function s ≡ meant_of.is_function v
+  pub function_is : {s : Known} {v : FlatValue} → Stands sizes d n s v → is_function s ≡ meant_of.is_function v
   function_is (s_scalar {c = c} e h) = sym (ap meant_of.is_function e ∙ no_function c)
   function_is (s_tuple h) = refl
   function_is (s_record h) = refl

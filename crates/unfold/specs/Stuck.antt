@@ -17,7 +17,7 @@ use Rattle.fut_meaning.specs.Datums.{takes}
 use Rattle.fut_meaning.specs.Found.{Told, Sizing}
 use Rattle.fut_meaning.specs.Meaning.{first_node}
 use Rattle.fut_meaning.specs.Operations.{parameters_of, arity, is_of_scalars}
-use Rattle.fut_meaning.specs.Programs.{is_reached}
+use Rattle.fut_meaning.specs.Programs.{is_reached, name_node}
 use Rattle.fut_blocks.specs.declared.block.Atom.{Atom}
 use Rattle.fut_blocks.specs.Meaning.{look}
 use Rattle.fut_blocks.specs.Rows.{Row, Size_test}
@@ -25,7 +25,7 @@ use Rattle.unfold.specs.Knowns.{Known, Scalar_known, Tuple_known, Function_known
 use Rattle.unfold.specs.Shapes.{Shape, Shapes, Laid, All_laid}
 use Rattle.unfold.specs.Telling.{size_used, enter}
 use Rattle.unfold.specs.Unfolding.{Bindings, named, Binds, Operates, Primitive_operates, Packs_all, data_known, function_known, Unfolds, Unfold_all, Applies, Applies_all}
-use Rattle.unfold.specs.Programs.{Definitions_unfold}
+use Rattle.unfold.specs.Programs.{seeing, Definitions_unfold}
 
 abbrev pub No_scalar : Known → Type 0
 No_scalar s = (u : Atom) → s ≡ Scalar_known u → ⊥
@@ -138,15 +138,15 @@ mutual
     stuck_on : {s f g : Known} {ss : List Known} {n n' : ℕ} {bs : Bindings} → Applies told tops f s n bs g n' → Stuck_runs told tops ss g → Stuck_runs told tops (s ∷ ss) f
 
 -- the definitions that are reached, in their order
-pub data Definitions_stuck (told : Told) (entry : ℕ) : Tops → List FlatTop → Type 0 where
-  stuck_definition : {tops : Tops} {d : FlatTop} {ds : List FlatTop} → is_reached is_flat_use entry ds d.number ≡ true → Stuck told tops nothing_seen d.first d.value → Definitions_stuck told entry tops (d ∷ ds)
-  stuck_next : {tops : Tops} {d : FlatTop} {ds : List FlatTop} {n n' : ℕ} {bs : Bindings} {s : Known} → is_reached is_flat_use entry ds d.number ≡ true → Unfolds told tops nothing_seen d.first d.value n bs s n' → Definitions_stuck told entry ((d.number, s) ∷ tops) ds → Definitions_stuck told entry tops (d ∷ ds)
-  stuck_other : {tops : Tops} {d : FlatTop} {ds : List FlatTop} → is_reached is_flat_use entry ds d.number ≡ false → Definitions_stuck told entry tops ds → Definitions_stuck told entry tops (d ∷ ds)
+pub data Definitions_stuck (told : Told) (entry : ℕ) : Scope → Tops → List FlatTop → Type 0 where
+  stuck_definition : {seen : Scope} {tops : Tops} {d : FlatTop} {ds : List FlatTop} → is_reached is_flat_use told.sizes entry ds d.number ≡ true → Stuck told tops seen d.first d.value → Definitions_stuck told entry seen tops (d ∷ ds)
+  stuck_next : {seen : Scope} {tops : Tops} {d : FlatTop} {ds : List FlatTop} {n n' : ℕ} {bs : Bindings} {s : Known} → is_reached is_flat_use told.sizes entry ds d.number ≡ true → Unfolds told tops seen d.first d.value n bs s n' → Definitions_stuck told entry (seeing told.sizes (name_node d) s seen) ((d.number, s) ∷ tops) ds → Definitions_stuck told entry seen tops (d ∷ ds)
+  stuck_other : {seen : Scope} {tops : Tops} {d : FlatTop} {ds : List FlatTop} → is_reached is_flat_use told.sizes entry ds d.number ≡ false → Definitions_stuck told entry seen tops ds → Definitions_stuck told entry seen tops (d ∷ ds)
 
 -- a program from an entry on, whose parameters are data of these shapes
 pub data Program_stuck (told : Told) (ds : List FlatTop) (entry : ℕ) (hs : Shapes) : Type 0 where
-  in_definitions : Definitions_stuck told entry [] ds → Program_stuck told ds entry hs
-  no_entry : {tops : Tops} {n n' : ℕ} {bs : Bindings} → Definitions_unfold told entry [] ds n bs tops n' → look tops entry ≡ None → Program_stuck told ds entry hs
-  in_entry : {tops : Tops} {n n' : ℕ} {bs : Bindings} {f : Known} {arguments : Knowns} {us : List Atom} → Definitions_unfold told entry [] ds n bs tops n' → look tops entry ≡ Some f → All_laid hs arguments us [] → Stuck_runs told tops (listed arguments) f → Program_stuck told ds entry hs
+  in_definitions : Definitions_stuck told entry nothing_seen [] ds → Program_stuck told ds entry hs
+  no_entry : {tops : Tops} {n n' : ℕ} {bs : Bindings} → Definitions_unfold told entry nothing_seen [] ds n bs tops n' → look tops entry ≡ None → Program_stuck told ds entry hs
+  in_entry : {tops : Tops} {n n' : ℕ} {bs : Bindings} {f : Known} {arguments : Knowns} {us : List Atom} → Definitions_unfold told entry nothing_seen [] ds n bs tops n' → look tops entry ≡ Some f → All_laid hs arguments us [] → Stuck_runs told tops (listed arguments) f → Program_stuck told ds entry hs
   -- the result is or holds a function
-  no_result : {tops : Tops} {n n1 n2 : ℕ} {bs cs : Bindings} {f s : Known} {arguments : Knowns} {us : List Atom} → Definitions_unfold told entry [] ds n bs tops n1 → look tops entry ≡ Some f → All_laid hs arguments us [] → Applies_all told tops (listed arguments) f n1 cs s n2 → No_data s → Program_stuck told ds entry hs
+  no_result : {tops : Tops} {n n1 n2 : ℕ} {bs cs : Bindings} {f s : Known} {arguments : Knowns} {us : List Atom} → Definitions_unfold told entry nothing_seen [] ds n bs tops n1 → look tops entry ≡ Some f → All_laid hs arguments us [] → Applies_all told tops (listed arguments) f n1 cs s n2 → No_data s → Program_stuck told ds entry hs

@@ -1,9 +1,9 @@
 -- The unfolding of a typed program is never stuck, and its blocks are well typed: its definitions are known at all types at which
 -- they may be used.
-use Rattle.std.proofs.Common.{◌≡◌, Bool, true, false, ◌||◌, cond, ℕ, ◌+◌, ◌≤◌, ◌<◌, ◌++◌, refl, sym, ap, ◌∙◌, subst, arith, List, [], ◌∷◌, map, length, Some, None, nat_eq, eq-eqb, ne_eqb}
+use Rattle.std.proofs.Common.{◌≡◌, Bool, true, false, ◌||◌, cond, ℕ, ◌+◌, ◌-◌, ◌≤◌, ◌<◌, ◌++◌, refl, sym, ap, ◌∙◌, subst, arith, List, [], ◌∷◌, map, length, Option, Some, None, nat_eq, eq-eqb, ne_eqb}
 use mathlib.Core.Logic.{inl, inr}
 use native.Mathlib.Decide.{ℕ_discrete}
-use Rattle.fut_meaning.specs.Found.{Told}
+use Rattle.fut_meaning.specs.Found.{Told, Sizing}
 use Rattle.fut_scalar.specs.declared.place.BindId.{BindId}
 use Rattle.fut_flat.specs.declared.program.Definition.{Definition}
 use Rattle.fut_flat.specs.declared.program.Flat.{Flat}
@@ -21,6 +21,7 @@ use Rattle.fut_typing.specs.Exact.{scope_behind}
 use Rattle.fut_typing.proofs.Cong.{within_no}
 use Rattle.fut_typing.proofs.Local.{AllLocal, all_local_more, local_parameters}
 use Rattle.fut_typing.proofs.Exact.{behind_local}
+use Rattle.fut_meaning.specs.Knowns.{or_else}
 use Rattle.fut_meaning.specs.Programs.{is_reached}
 use Rattle.fut_meaning.specs.Flats.{is_flat_use, flat_tops}
 use Rattle.fut_blocks.specs.declared.block.Atom.{Atom}
@@ -35,22 +36,27 @@ use Rattle.type_soundness.specs.Meant.{Literal, Literals_told}
 use Rattle.type_soundness.specs.Programs.{Definitions_told, None_has, One_each, Is_sized}
 use Rattle.type_soundness.proofs.Literals.{literal_kept}
 use Rattle.type_soundness.proofs.Programs.{or_left, or_right, both, sized_uses, definitions_only, tops_of, Reached}
-use Rattle.unfold.specs.Knowns.{Known, Knowns, no_known, known_and, nothing_seen, Tops, listed, find, local_by, local}
+use Rattle.unfold.specs.Knowns.{Known, Knowns, no_known, known_and, Scope as Seen, no_name, names_in, nothing_seen, Tops, listed, find, local_by, local}
+use Rattle.unfold.specs.Programs as opened
+use Rattle.unfold.specs.Telling.{is_function, enter}
 use Rattle.unfold.specs.Programs.{Definitions_unfold, d_none, d_reached, d_other, Program_unfolds}
 use Rattle.unfold.specs.Shapes.{Shape, Scalar_shape, Shapes, Laid, laid_scalar, laid_tuple, All_laid, laid_none, laid_more}
 use Rattle.unfold.specs.Stuck.{Definitions_stuck, stuck_definition, stuck_next, stuck_other, Stuck_runs, stuck_run, stuck_on, Program_stuck, in_definitions, no_entry, in_entry, no_result}
 use Rattle.unfold.specs.Unfolding.{Bindings, names, Unfolds, Applies_all, a_none, a_more}
+use Rattle.unfold_laws.specs.Entered.{All_in_known, All_entered}
 use Rattle.unfold_laws.specs.Claims.{UnfoldingNeverStuck, UnfoldedWellTyped}
 use Rattle.unfold_laws.specs.Components.{components, all_components}
 use Rattle.unfold_laws.specs.Fits.{Given, Context, behind, World, Keeps_tops, types_of, Steps_typed, Learns, Comes, Runs_well, Is_data, All_data, Fits, All_fit, Name_fits, Names_fit}
 use Rattle.unfold_laws.specs.Shaped.{Of_shape, scalar_of_shape, array_of_shape, tuple_of_shape, All_of_shapes, none_of_shapes, more_of_shapes}
-use Rattle.unfold_laws.specs.Typed.{Are, of_constants, with_names, Body_typed, any_types}
-use Rattle.unfold_laws.proofs.Fitting.{some_same, none_some, fits_learn, all_fit_learn, kind_data}
+use Rattle.unfold_laws.specs.Typed.{Are, Stands, of_constants, with_names, Body_typed, any_types}
+use Rattle.unfold_laws.proofs.Fitting.{some_same, none_some, stands_learn, fits_learn, fits_stand, all_fit_learn, kind_data}
 use Rattle.unfold_laws.proofs.Functions.{function_fits}
 use Rattle.unfold_laws.proofs.Going.{Goes, goes_as}
 use Rattle.unfold_laws.proofs.Seeing.{names_learn, names_move, names_types}
 use Rattle.unfold_laws.proofs.Shaping.{shaped, laid_are}
 use Rattle.unfold_laws.proofs.Surely.{surely}
+use Rattle.unfold_laws.proofs.Entered.{entered_as}
+use Rattle.unfold_laws.proofs.Telling.{enter_all}
 use Rattle.unfold_laws.proofs.TypedSteps.{are_kept, behind_keeps, steps_then, behind_then, block_typed, learns_steps, comes_none, comes_then, stand_are}
 
 module _ (N : Names) (are : AreNames N) (K : Kinds) (a : Sub) (T : Told) (entry : BindId) where
@@ -64,6 +70,33 @@ module _ (N : Names) (are : AreNames N) (K : Kinds) (a : Sub) (T : Told) (entry 
   abbrev In_tops : World → (ℕ → Type 0) → Scope → Type 0
   In_tops world P scope = Names_fit N T world P scope K a nothing_seen
 
+  -- what the definitions begin with has no names, and of what was entered each atom stands for data
+  record Begins (C : Context) (seen : Seen) : Type 0 where
+    nameless : names_in seen ≡ no_name
+    entries : All_entered (Stands (types_of N K C)) seen
+
+  same_names : (world : World) (seen : Seen) (k : ℕ) → names_in seen ≡ no_name → find world.0 nothing_seen k ≡ find world.0 seen k
+  unfolding find local local_by
+  same_names world seen k e = ap (λ z. or_else (local_by k z k) (look world.0 k)) (sym e)
+
+  seen_fits : (world : World) (P : ℕ → Type 0) (scope : Scope) (seen : Seen) → Begins world.1 seen → In_tops world P scope → Names_fit N T world P scope K a seen
+  seen_fits world P scope seen begins h = (begins.entries, λ b p t u. subst (λ o. Name_fits N T K world t o (is_size_in T.sizes b)) (same_names world seen b begins.nameless) (h.1 b p t u))
+
+  begins_learn : (world world' : World) (seen : Seen) → Learns N K world world' → Begins world.1 seen → Begins world'.1 seen
+  begins_learn world world' seen l b = record { nameless = b.nameless; entries = entered_as _ _ (stands_learn N T K world world' l) seen b.entries }
+
+  begins_seeing : (C : Context) (q : ℕ) (s : Known) (seen : Seen) → All_in_known (Stands (types_of N K C)) s → Begins C seen → Begins C (opened.seeing T.sizes q s seen)
+  begins_seeing C q s seen h b = record { nameless = nameless_if (is_function s) T.sizes; entries = entries_if (is_function s) }
+    where
+      nameless_if : (is : Bool) (z : Option Sizing) → names_in (cond is seen (enter z q s seen)) ≡ no_name
+      nameless_if true z = b.nameless
+      nameless_if false None = b.nameless
+      nameless_if false (Some Z) = b.nameless
+
+      entries_if : (is : Bool) → All_entered (Stands (types_of N K C)) (cond is seen (enter T.sizes q s seen))
+      entries_if true = b.entries
+      entries_if false = enter_all (Stands (types_of N K C)) T.sizes q s seen h b.entries
+
   -- the definitions that are known are not among those that are left
   abbrev Left : Tops → List Definition → Type 0
   Left tops ds = (k : ℕ) (s : Known) → look tops k ≡ Some s → None_has k ds
@@ -75,13 +108,13 @@ module _ (N : Names) (are : AreNames N) (K : Kinds) (a : Sub) (T : Told) (entry 
     abbrev whole : Scheme
     whole = definition_scheme N kind.Data (defined d) lo scope
 
-    value_goes : (P : ℕ → Type 0) (world : World) (c other : Sub) → ((n : ℕ) → n < lo → other n ≡ a n) → ((m : ℕ) → Literal value (lo + 1) m → other m ≡ a m) → whole.typed c K other → Heads_sized S (parameters d.heads.now) → Sized S P value → Literals_told T.integer_at a value (lo + 1)
-        → lo + (1 + numbers value) < widest → In_tops world P scope → Goes N are T P K world nothing_seen (1 + lo) value (other lo)
-    value_goes P world c other outside literals typed sizes meant lits small h =
-        goes_as N are T P K world nothing_seen (1 + lo) value (other (lo + 1)) (other lo) (sym typed.1)
-        (subst (λ n. Goes N are T P K world nothing_seen n value (other (lo + 1))) (let z : lo + 1 ≡ 1 + lo = omega arith in z)
-        (surely N are T P K value (lo + 1) _ other world nothing_seen (local_parameters (λ n. n < lo + 1) (parameters d.heads.now) c scope (all_local_more (λ n. n < lo) (λ n. n < lo + 1) scope (λ n p. omega (arith, p)) all)) typed.0.1 meant (λ m l. literals m l ∙ lits m l) (omega (arith, small))
-        (names_types N T P K world (parameters d.heads.now) c scope other nothing_seen sizes (names_move N T P K world scope lo a other nothing_seen all outside h))))
+    value_goes : (P : ℕ → Type 0) (world : World) (seen : Seen) (c other : Sub) → ((n : ℕ) → n < lo → other n ≡ a n) → ((m : ℕ) → Literal value (lo + 1) m → other m ≡ a m) → whole.typed c K other → Heads_sized S (parameters d.heads.now) → Sized S P value → Literals_told T.integer_at a value (lo + 1)
+        → lo + (1 + numbers value) < widest → Begins world.1 seen → In_tops world P scope → Goes N are T P K world seen (1 + lo) value (other lo)
+    value_goes P world seen c other outside literals typed sizes meant lits small begins h =
+        goes_as N are T P K world seen (1 + lo) value (other (lo + 1)) (other lo) (sym typed.1)
+        (subst (λ n. Goes N are T P K world seen n value (other (lo + 1))) (let z : lo + 1 ≡ 1 + lo = omega arith in z)
+        (surely N are T P K value (lo + 1) _ other world seen (local_parameters (λ n. n < lo + 1) (parameters d.heads.now) c scope (all_local_more (λ n. n < lo) (λ n. n < lo + 1) scope (λ n p. omega (arith, p)) all)) typed.0.1 meant (λ m l. literals m l ∙ lits m l) (omega (arith, small))
+        (names_types N T P K world (parameters d.heads.now) c scope other seen sizes (names_move N T P K world scope lo a other seen all outside (seen_fits world P scope seen begins h)))))
 
     literal_stays : (other : Sub) → ((n : ℕ) → lo ≤ n → n < lo + (1 + numbers value) → whole.free n ≡ false → other n ≡ a n) → (m : ℕ) → Literal value (lo + 1) m → other m ≡ a m
     literal_stays other kept m l = let r = literal_kept value (lo + 1) m l in let r0 : lo + 1 ≤ m = r.0.0 in let r1 : m < lo + 1 + numbers value = r.0.1 in
@@ -92,10 +125,10 @@ module _ (N : Names) (are : AreNames N) (K : Kinds) (a : Sub) (T : Told) (entry 
         neither false y e k = k
 
     -- what is known of its value is known at each type of its uses
-    each_use : (P : ℕ → Type 0) (world : World) → Heads_sized S (parameters d.heads.now) → Sized S P value → Literals_told T.integer_at a value (lo + 1) → lo + (1 + numbers value) < widest → In_tops world P scope
-        → (n n' : ℕ) (bs : Bindings) (s : Known) → Unfolds T world.0 nothing_seen (1 + lo) value n bs s n' → (t : Ty) → Reused kind.Data whole lo K a t → At (world.0, behind world.1 bs) t s
-    each_use P world sizes meant lits small h n n' bs s v t u = let x = u.2.0 in
-        subst (λ z. At (world.0, behind world.1 bs) z s) (sym u.2.1) ((value_goes P world u.0 x.other (λ n p. x.outside n (inl p)) (literal_stays x.other x.kept) x.typed sizes meant lits small h).1 n n' bs s v).1
+    each_use : (P : ℕ → Type 0) (world : World) (seen : Seen) → Heads_sized S (parameters d.heads.now) → Sized S P value → Literals_told T.integer_at a value (lo + 1) → lo + (1 + numbers value) < widest → Begins world.1 seen → In_tops world P scope
+        → (n n' : ℕ) (bs : Bindings) (s : Known) → Unfolds T world.0 seen (1 + lo) value n bs s n' → (t : Ty) → Reused kind.Data whole lo K a t → At (world.0, behind world.1 bs) t s
+    each_use P world seen sizes meant lits small begins h n n' bs s v t u = let x = u.2.0 in
+        subst (λ z. At (world.0, behind world.1 bs) z s) (sym u.2.1) ((value_goes P world seen u.0 x.other (λ n p. x.outside n (inl p)) (literal_stays x.other x.kept) x.typed sizes meant lits small begins h).1 n n' bs s v).1
 
     new_top : (tops : Tops) (w : Known) → Left tops (d ∷ ds) → Keeps_tops tops ((d.bind.0, w) ∷ tops)
     new_top tops w left k s e = ap (λ b. cond b (Some w) (look tops k)) (ne_eqb d.bind.0 k (left k s e).0) ∙ e
@@ -136,11 +169,11 @@ module _ (N : Names) (are : AreNames N) (K : Kinds) (a : Sub) (T : Told) (entry 
   abbrev Ends : List Definition → ℕ → Scope → World → Type 0
   Ends ds lo scope world = In_tops world (λ k. nat_eq k entry.0 ≡ true) (scope_behind N kind.Data (map defined ds) lo scope)
 
-  abbrev Definitions_go : List Definition → ℕ → Scope → Tops → Context → Type 0
-  Definitions_go ds lo scope tops C = (Definitions_stuck T entry.0 tops (tops_of lo ds) → ⊥) × ((n n' : ℕ) (bs : Bindings) (end : Tops) → Definitions_unfold T entry.0 tops (tops_of lo ds) n bs end n' → Steps_typed N K C bs × Ends ds lo scope (end, behind C bs))
+  abbrev Definitions_go : List Definition → ℕ → Scope → Seen → Tops → Context → Type 0
+  Definitions_go ds lo scope seen tops C = (Definitions_stuck T entry.0 seen tops (tops_of lo ds) → ⊥) × ((n n' : ℕ) (bs : Bindings) (end : Tops) → Definitions_unfold T entry.0 seen tops (tops_of lo ds) n bs end n' → Steps_typed N K C bs × Ends ds lo scope (end, behind C bs))
 
   -- what is asked of the definitions that are left
-  record Ready (ds : List Definition) (lo : ℕ) (scope : Scope) (tops : Tops) (C : Context) : Type 0 where
+  record Ready (ds : List Definition) (lo : ℕ) (scope : Scope) (seen : Seen) (tops : Tops) (C : Context) : Type 0 where
     all : AllLocal (λ n. n < lo) scope
     typed : Definitions_typed N kind.Data (map defined ds) lo scope K a
     meant : Definitions_sized S (map defined ds)
@@ -148,7 +181,8 @@ module _ (N : Names) (are : AreNames N) (K : Kinds) (a : Sub) (T : Told) (entry 
     once : One_each ds
     small : lo + program_numbers (map defined ds) < widest
     left : Left tops ds
-    names : In_tops (tops, C) (Reached entry lo ds) scope
+    begins : Begins C seen
+    names : In_tops (tops, C) (Reached T.sizes entry lo ds) scope
 
   abbrev after : Definition → ℕ → ℕ
   after d lo = lo + (1 + numbers (term_of d.value.now))
@@ -157,19 +191,19 @@ module _ (N : Names) (are : AreNames N) (K : Kinds) (a : Sub) (T : Told) (entry 
   behind_scope d lo scope = with_uses d.bind.0 (Reused kind.Data (definition_scheme N kind.Data (defined d) lo scope) lo) scope
 
   abbrev is_next : Definition → List Definition → ℕ → Bool → Type 0
-  is_next d ds lo b = is_reached is_flat_use entry.0 (tops_of (after d lo) ds) d.bind.0 ≡ b
+  is_next d ds lo b = is_reached is_flat_use T.sizes entry.0 (tops_of (after d lo) ds) d.bind.0 ≡ b
 
-  reached_meant : (d : Definition) (ds : List Definition) (lo : ℕ) (scope : Scope) (tops : Tops) (C : Context) → Ready (d ∷ ds) lo scope tops C → is_next d ds lo true → Sized S (Reached entry lo (d ∷ ds)) (term_of d.value.now)
+  reached_meant : (d : Definition) (ds : List Definition) (lo : ℕ) (scope : Scope) (seen : Seen) (tops : Tops) (C : Context) → Ready (d ∷ ds) lo scope seen tops C → is_next d ds lo true → Sized S (Reached T.sizes entry lo (d ∷ ds)) (term_of d.value.now)
   unfolding flat_tops
-  reached_meant d ds lo scope tops C r e = sized_uses (Reached entry lo (d ∷ ds)) S (term_of d.value.now) [] r.meant.1 (λ k u. or_left _ _ (both _ _ e u))
+  reached_meant d ds lo scope seen tops C r e = sized_uses (Reached T.sizes entry lo (d ∷ ds)) S (term_of d.value.now) [] r.meant.1 (λ k u. or_left _ _ (both _ _ e (or_left _ _ u)))
 
-  first_goes : (d : Definition) (ds : List Definition) (lo : ℕ) (scope : Scope) (tops : Tops) (C : Context) → Ready (d ∷ ds) lo scope tops C → is_next d ds lo true → Goes N are T (Reached entry lo (d ∷ ds)) K (tops, C) nothing_seen (1 + lo) (term_of d.value.now) (a lo)
-  first_goes d ds lo scope tops C r e = value_goes d ds lo scope r.all (Reached entry lo (d ∷ ds)) (tops, C) (own_types kind.Data (parameters d.heads.now)) a (λ n p. refl) (λ m l. refl) r.typed.0.0 r.meant.0.0 (reached_meant d ds lo scope tops C r e) r.told.0 (let z = r.small in omega (arith, z)) r.names
+  first_goes : (d : Definition) (ds : List Definition) (lo : ℕ) (scope : Scope) (seen : Seen) (tops : Tops) (C : Context) → Ready (d ∷ ds) lo scope seen tops C → is_next d ds lo true → Goes N are T (Reached T.sizes entry lo (d ∷ ds)) K (tops, C) seen (1 + lo) (term_of d.value.now) (a lo)
+  first_goes d ds lo scope seen tops C r e = value_goes d ds lo scope r.all (Reached T.sizes entry lo (d ∷ ds)) (tops, C) seen (own_types kind.Data (parameters d.heads.now)) a (λ n p. refl) (λ m l. refl) r.typed.0.0 r.meant.0.0 (reached_meant d ds lo scope seen tops C r e) r.told.0 (let z = r.small in omega (arith, z)) r.begins r.names
 
-  ready_known : (d : Definition) (ds : List Definition) (lo : ℕ) (scope : Scope) (tops : Tops) (C : Context) → Ready (d ∷ ds) lo scope tops C → is_next d ds lo true → (n n' : ℕ) (bs : Bindings) (s : Known) → Unfolds T tops nothing_seen (1 + lo) (term_of d.value.now) n bs s n'
-      → Ready ds (after d lo) (behind_scope d lo scope) ((d.bind.0, s) ∷ tops) (behind C bs)
+  ready_known : (d : Definition) (ds : List Definition) (lo : ℕ) (scope : Scope) (seen : Seen) (tops : Tops) (C : Context) → Ready (d ∷ ds) lo scope seen tops C → is_next d ds lo true → (n n' : ℕ) (bs : Bindings) (s : Known) → Unfolds T tops seen (1 + lo) (term_of d.value.now) n bs s n'
+      → Ready ds (after d lo) (behind_scope d lo scope) (opened.seeing T.sizes ((1 + lo) - 1) s seen) ((d.bind.0, s) ∷ tops) (behind C bs)
   unfolding flat_tops
-  ready_known d ds lo scope tops C r e n n' bs s v = record {
+  ready_known d ds lo scope seen tops C r e n n' bs s v = record {
     all = behind_local N kind.Data (defined d) lo scope r.all;
     typed = r.typed.1;
     meant = r.meant.2;
@@ -177,14 +211,15 @@ module _ (N : Names) (are : AreNames N) (K : Kinds) (a : Sub) (T : Told) (entry 
     once = r.once.1;
     small = let z = r.small in omega (arith, z);
     left = left_known d ds lo scope r.all tops s r.once.0 r.left;
-    names = behind_known d ds lo scope r.all (Reached entry lo (d ∷ ds)) (Reached entry (after d lo) ds) tops (behind C bs) s (λ k q. or_right _ _ q) r.left r.meant.0.1
-        (each_use d ds lo scope r.all (Reached entry lo (d ∷ ds)) (tops, C) r.meant.0.0 (reached_meant d ds lo scope tops C r e) r.told.0 (let z = r.small in omega (arith, z)) r.names n n' bs s v)
-        (names_learn N T (Reached entry lo (d ∷ ds)) K (tops, C) (tops, behind C bs) (learns_steps N K bs (tops, C)) scope a nothing_seen r.names);
+    begins = begins_seeing (behind C bs) ((1 + lo) - 1) s seen (fits_stand N T K (tops, behind C bs) (a lo) s ((first_goes d ds lo scope seen tops C r e).1 n n' bs s v).1) (begins_learn (tops, C) (tops, behind C bs) seen (learns_steps N K bs (tops, C)) r.begins);
+    names = behind_known d ds lo scope r.all (Reached T.sizes entry lo (d ∷ ds)) (Reached T.sizes entry (after d lo) ds) tops (behind C bs) s (λ k q. or_right _ _ q) r.left r.meant.0.1
+        (each_use d ds lo scope r.all (Reached T.sizes entry lo (d ∷ ds)) (tops, C) seen r.meant.0.0 (reached_meant d ds lo scope seen tops C r e) r.told.0 (let z = r.small in omega (arith, z)) r.begins r.names n n' bs s v)
+        (names_learn N T (Reached T.sizes entry lo (d ∷ ds)) K (tops, C) (tops, behind C bs) (learns_steps N K bs (tops, C)) scope a nothing_seen r.names);
   }
 
-  ready_left : (d : Definition) (ds : List Definition) (lo : ℕ) (scope : Scope) (tops : Tops) (C : Context) → Ready (d ∷ ds) lo scope tops C → is_next d ds lo false → Ready ds (after d lo) (behind_scope d lo scope) tops C
+  ready_left : (d : Definition) (ds : List Definition) (lo : ℕ) (scope : Scope) (seen : Seen) (tops : Tops) (C : Context) → Ready (d ∷ ds) lo scope seen tops C → is_next d ds lo false → Ready ds (after d lo) (behind_scope d lo scope) seen tops C
   unfolding flat_tops
-  ready_left d ds lo scope tops C r e = record {
+  ready_left d ds lo scope seen tops C r e = record {
     all = behind_local N kind.Data (defined d) lo scope r.all;
     typed = r.typed.1;
     meant = r.meant.2;
@@ -192,32 +227,33 @@ module _ (N : Names) (are : AreNames N) (K : Kinds) (a : Sub) (T : Told) (entry 
     once = r.once.1;
     small = let z = r.small in omega (arith, z);
     left = λ k s x. (r.left k s x).1;
-    names = behind_left d ds lo scope r.all (Reached entry lo (d ∷ ds)) (Reached entry (after d lo) ds) (tops, C) (λ k q. or_right _ _ q) (λ q. let z : true ≡ false = sym q ∙ e in cc) r.names;
+    begins = r.begins;
+    names = behind_left d ds lo scope r.all (Reached T.sizes entry lo (d ∷ ds)) (Reached T.sizes entry (after d lo) ds) (tops, C) (λ k q. or_right _ _ q) (λ q. let z : true ≡ false = sym q ∙ e in cc) r.names;
   }
 
   abbrev Rest : Definition → List Definition → ℕ → Scope → Type 0
-  Rest d ds lo scope = (tops : Tops) (C : Context) → Ready ds (after d lo) (behind_scope d lo scope) tops C → Definitions_go ds (after d lo) (behind_scope d lo scope) tops C
+  Rest d ds lo scope = (seen : Seen) (tops : Tops) (C : Context) → Ready ds (after d lo) (behind_scope d lo scope) seen tops C → Definitions_go ds (after d lo) (behind_scope d lo scope) seen tops C
 
-  definitions_go : (ds : List Definition) (lo : ℕ) (scope : Scope) (tops : Tops) (C : Context) → Ready ds lo scope tops C → Definitions_go ds lo scope tops C
+  definitions_go : (ds : List Definition) (lo : ℕ) (scope : Scope) (seen : Seen) (tops : Tops) (C : Context) → Ready ds lo scope seen tops C → Definitions_go ds lo scope seen tops C
   unfolding flat_tops
-  definitions_go [] lo scope tops C r = ((λ w. elim w [ ]), (λ n n' bs end v. known n n' bs end v))
+  definitions_go [] lo scope seen tops C r = ((λ w. elim w [ ]), (λ n n' bs end v. known n n' bs end v))
     where
-      known : (n n' : ℕ) (bs : Bindings) (end : Tops) → Definitions_unfold T entry.0 tops [] n bs end n' → Steps_typed N K C bs × Ends [] lo scope (end, behind C bs)
+      known : (n n' : ℕ) (bs : Bindings) (end : Tops) → Definitions_unfold T entry.0 seen tops [] n bs end n' → Steps_typed N K C bs × Ends [] lo scope (end, behind C bs)
       known _ _ _ _ d_none = (tt, r.names)
-  definitions_go (d ∷ ds) lo scope tops C r =
-      ((λ w. stuck (λ tops C x. definitions_go ds (after d lo) (behind_scope d lo scope) tops C x) w), (λ n n' bs end v. known (λ tops C x. definitions_go ds (after d lo) (behind_scope d lo scope) tops C x) n n' bs end v))
+  definitions_go (d ∷ ds) lo scope seen tops C r =
+      ((λ w. stuck (λ seen tops C x. definitions_go ds (after d lo) (behind_scope d lo scope) seen tops C x) w), (λ n n' bs end v. known (λ seen tops C x. definitions_go ds (after d lo) (behind_scope d lo scope) seen tops C x) n n' bs end v))
     where
-      stuck : Rest d ds lo scope → Definitions_stuck T entry.0 tops (tops_of lo (d ∷ ds)) → ⊥
-      stuck rec (stuck_definition f w) = (first_goes d ds lo scope tops C r f).0 w
-      stuck rec (stuck_next {n = n} {n' = n'} {bs = bs} {s = s} f v w) = (rec ((d.bind.0, s) ∷ tops) (behind C bs) (ready_known d ds lo scope tops C r f n n' bs s v)).0 w
-      stuck rec (stuck_other f w) = (rec tops C (ready_left d ds lo scope tops C r f)).0 w
+      stuck : Rest d ds lo scope → Definitions_stuck T entry.0 seen tops (tops_of lo (d ∷ ds)) → ⊥
+      stuck rec (stuck_definition f w) = (first_goes d ds lo scope seen tops C r f).0 w
+      stuck rec (stuck_next {n = n} {n' = n'} {bs = bs} {s = s} f v w) = (rec (opened.seeing T.sizes ((1 + lo) - 1) s seen) ((d.bind.0, s) ∷ tops) (behind C bs) (ready_known d ds lo scope seen tops C r f n n' bs s v)).0 w
+      stuck rec (stuck_other f w) = (rec seen tops C (ready_left d ds lo scope seen tops C r f)).0 w
 
-      known : Rest d ds lo scope → (n n' : ℕ) (bs : Bindings) (end : Tops) → Definitions_unfold T entry.0 tops (tops_of lo (d ∷ ds)) n bs end n' → Steps_typed N K C bs × Ends (d ∷ ds) lo scope (end, behind C bs)
+      known : Rest d ds lo scope → (n n' : ℕ) (bs : Bindings) (end : Tops) → Definitions_unfold T entry.0 seen tops (tops_of lo (d ∷ ds)) n bs end n' → Steps_typed N K C bs × Ends (d ∷ ds) lo scope (end, behind C bs)
       known rec _ _ _ end (d_reached {n = n} {n1 = n1} {n2 = n2} {bs = bs} {cs = cs} {s = s} f v w) =
-          let c = (first_goes d ds lo scope tops C r f).1 n n1 bs s v in
-          let q = (rec ((d.bind.0, s) ∷ tops) (behind C bs) (ready_known d ds lo scope tops C r f n n1 bs s v)).1 n1 n2 cs end w in
+          let c = (first_goes d ds lo scope seen tops C r f).1 n n1 bs s v in
+          let q = (rec (opened.seeing T.sizes ((1 + lo) - 1) s seen) ((d.bind.0, s) ∷ tops) (behind C bs) (ready_known d ds lo scope seen tops C r f n n1 bs s v)).1 n1 n2 cs end w in
           (steps_then N K C bs cs c.0 q.0, subst (λ D. Ends (d ∷ ds) lo scope (end, D)) (sym (behind_then N K C bs cs)) q.1)
-      known rec n n' bs end (d_other f w) = (rec tops C (ready_left d ds lo scope tops C r f)).1 n n' bs end w
+      known rec n n' bs end (d_other f w) = (rec seen tops C (ready_left d ds lo scope seen tops C r f)).1 n n' bs end w
 
   -- ---- the entry
   -- what is one component is data
@@ -281,24 +317,24 @@ module _ (N : Names) (are : AreNames N) (K : Kinds) (a : Sub) (T : Told) (entry 
       known : ((C : Context) → Learns N K world (world.0, C) → (g : Known) → At (world.0, C) (arrows ts u) g → Run (world.0, C) u ss g) → (n n' : ℕ) (bs : Bindings) (r : Known) → Applies_all T world.0 (s ∷ listed ss) f n bs r n' → Comes N K world bs (λ there. At there u r)
       known rec _ _ _ r (a_more {g = g} {bs = bs} {cs = cs} x y) = comes_then N K world bs cs (λ there. At there (arrows ts u) g) (λ there. At there u r) (well.1 _ _ bs g x) (λ C l q. (rec C l g q).1 _ _ cs r y)
 
-  module _ (ds : List Definition) (ts : Tys) (u : Ty) (hs : Shapes) (used : (scope_behind N kind.Data (map defined ds) 0 nothing).uses entry.0 K a (arrows ts u)) (shapes : All_of_shapes ts hs) (result : HasKind K kind.Data u) (other : S entry.0 ≡ false) (go : (C : Context) → Definitions_go ds 0 nothing [] C) where
+  module _ (ds : List Definition) (ts : Tys) (u : Ty) (hs : Shapes) (used : (scope_behind N kind.Data (map defined ds) 0 nothing).uses entry.0 K a (arrows ts u)) (shapes : All_of_shapes ts hs) (result : HasKind K kind.Data u) (other : S entry.0 ≡ false) (go : (C : Context) → Definitions_go ds 0 nothing nothing_seen [] C) where
     -- on atoms for the components of the arguments
     abbrev given : List Atom → Context
     given us = Given us (all_components N hs ts none) ∷ []
 
     -- what is known of the entry
-    entry_fits : (C : Context) (n n' : ℕ) (bs : Bindings) (end : Tops) → Definitions_unfold T entry.0 [] (tops_of 0 ds) n bs end n' → Name_fits N T K (end, behind C bs) (arrows ts u) (look end entry.0) false
+    entry_fits : (C : Context) (n n' : ℕ) (bs : Bindings) (end : Tops) → Definitions_unfold T entry.0 nothing_seen [] (tops_of 0 ds) n bs end n' → Name_fits N T K (end, behind C bs) (arrows ts u) (look end entry.0) false
     unfolding find local local_by
     entry_fits C n n' bs end v = subst (Name_fits N T K (end, behind C bs) (arrows ts u) (look end entry.0)) other (((go C).1 n n' bs end v).1.1 entry.0 (eq-eqb entry.0 entry.0 refl) (arrows ts u) used)
 
-    entry_is : (C : Context) (n n' : ℕ) (bs : Bindings) (end : Tops) (s : Known) → Definitions_unfold T entry.0 [] (tops_of 0 ds) n bs end n' → look end entry.0 ≡ Some s → At (end, behind C bs) (arrows ts u) s
+    entry_is : (C : Context) (n n' : ℕ) (bs : Bindings) (end : Tops) (s : Known) → Definitions_unfold T entry.0 nothing_seen [] (tops_of 0 ds) n bs end n' → look end entry.0 ≡ Some s → At (end, behind C bs) (arrows ts u) s
     entry_is C n n' bs end s v e = let r = entry_fits C n n' bs end v in subst (At (end, behind C bs) (arrows ts u)) (some_same (sym r.1 ∙ e)) r.2
 
-    entry_there : (n n' : ℕ) (bs : Bindings) (end : Tops) → Definitions_unfold T entry.0 [] (tops_of 0 ds) n bs end n' → look end entry.0 ≡ None → ⊥
+    entry_there : (n n' : ℕ) (bs : Bindings) (end : Tops) → Definitions_unfold T entry.0 nothing_seen [] (tops_of 0 ds) n bs end n' → look end entry.0 ≡ None → ⊥
     entry_there n n' bs end v e = let r = entry_fits [] n n' bs end v in none_some r.1 e
 
     -- the entry, applied to its arguments
-    entry_runs : (us : List Atom) (n n' : ℕ) (bs : Bindings) (end : Tops) (f : Known) (ss : Knowns) → Definitions_unfold T entry.0 [] (tops_of 0 ds) n bs end n' → look end entry.0 ≡ Some f → All_laid hs ss us [] → Run (end, behind (given us) bs) u ss f
+    entry_runs : (us : List Atom) (n n' : ℕ) (bs : Bindings) (end : Tops) (f : Known) (ss : Knowns) → Definitions_unfold T entry.0 nothing_seen [] (tops_of 0 ds) n bs end n' → look end entry.0 ≡ Some f → All_laid hs ss us [] → Run (end, behind (given us) bs) u ss f
     entry_runs us n n' bs end f ss v e l =
         let long : length us + 0 ≡ count (all_components N hs ts none) + 0 = all_shapes_length ts hs ss us [] none shapes l in
         let C : Context = behind (given us) bs in
@@ -325,9 +361,9 @@ module _ (N : Names) (are : AreNames N) (K : Kinds) (a : Sub) (T : Told) (entry 
         (block_typed N K (x.defined ++ x.applied) x.results C (components N h u none) (steps_then N K C x.defined x.applied d.0 c.0)
         (subst (λ D. Are (types_of N K D) x.results (components N h u none)) (sym (behind_then N K C x.defined x.applied)) results))
 
-ready : (N : Names) (are : AreNames N) (K : Kinds) (a : Sub) (T : Told) (entry : BindId) (flat : Flat) → Is_sized N kind.Data K a T flat → (C : Context) → Definitions_go N are K a T entry flat.definitions.now 0 nothing [] C
+ready : (N : Names) (are : AreNames N) (K : Kinds) (a : Sub) (T : Told) (entry : BindId) (flat : Flat) → Is_sized N kind.Data K a T flat → (C : Context) → Definitions_go N are K a T entry flat.definitions.now 0 nothing nothing_seen [] C
 unfolding find local local_by
-ready N are K a T entry flat is C = definitions_go N are K a T entry flat.definitions.now 0 nothing [] C (record {
+ready N are K a T entry flat is C = definitions_go N are K a T entry flat.definitions.now 0 nothing nothing_seen [] C (record {
   all = λ b K x y t same h. absurd h;
   typed = is.typed;
   meant = definitions_sized (is_size_in T.sizes) (program_of flat) is.formed is.apart;
@@ -335,6 +371,7 @@ ready N are K a T entry flat is C = definitions_go N are K a T entry flat.defini
   once = is.once;
   small = let s = is.small in omega (arith, s);
   left = λ k v e. absurd (let z : None ≡ Some v = e in cc);
+  begins = record { nameless = refl; entries = tt };
   names = (tt, λ b p t h. absurd h);
 })
 
