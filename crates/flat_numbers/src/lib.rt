@@ -22,4 +22,4 @@ mod terms;
 pub use home_table::homes;
 pub use patterns::{after, after_pattern, after_patterns};
 pub use place_table::places;
-pub use terms::{after_exp, own_numbers_of};
+pub use terms::{after_exp, after_turns, own_numbers_of};

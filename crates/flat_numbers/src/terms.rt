@@ -116,7 +116,7 @@ fn after_loop(at: u32, whole: &Loop<'_>) -> Result<u32, NoMemory>
 }
 
 #[cycle(exp)]
-fn after_turns(at: u32, form: &LoopForm<'_>) -> Result<u32, NoMemory>
+pub fn after_turns(at: u32, form: &LoopForm<'_>) -> Result<u32, NoMemory>
     ensures { IfOk result (λ next. next ≡ at + turn_numbers (turns_of form.now)) }
 {
     match form {

@@ -1,6 +1,6 @@
 -- When sizes agree, what is refused, and what becomes of sizes where control meets or a name goes out of scope (Futhark
 -- Language Reference, "Size Types", "Causality restriction").
-use Rattle.std.specs.Prelude.{ℕ, suc, ◌+◌, Bool, true, false, cond, nat_eq, List, [], ◌∷◌, Result, Ok, Err}
+use Rattle.std.specs.Prelude.{ℕ, suc, ◌+◌, ◌^◌, Bool, true, false, cond, nat_eq, nat_lt, List, [], ◌∷◌, Result, Ok, Err}
 use Rattle.fut_types.specs.declared.Head.TheVariants as head
 use Rattle.fut_types.specs.Types.{Ty, Var, Made, Tys, none, more}
 use Rattle.sized_types.specs.Sizes.{Free, Name, Unknown, Dim, At, Bound, Inferred, Written, Size, Hole, Level, Built, Fun, Sizes, no_size, size_and, is_dim, levels, renamed, takes}
@@ -20,6 +20,12 @@ Answer A = Result A Refusal
 abbrev pub then_do : {A B : Type 0} → Answer A → (A → Answer B) → Answer B
 then_do (Ok a) more_of = more_of a
 then_do (Err e) more_of = Err e
+
+-- ---- constants
+
+-- a size is a number of type i64, so that no literal from 2^63 on is one
+abbrev pub fits_i64 : ℕ → Bool
+fits_i64 c = nat_lt c (2 ^ 63)
 
 -- ---- agreement
 

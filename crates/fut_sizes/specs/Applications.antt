@@ -9,7 +9,7 @@ use Rattle.fut_types.specs.Types.{Ty, Made}
 use Rattle.fut_types.specs.declared.Head.TheVariants as head
 use Rattle.sized_types.specs.Sizes.{Free, Const, Name, Unknown, Slot, Dim, At, Variable, Size, Hole, Open, Level, Built, Fun, Sizes, no_size, size_and, renamed}
 use Rattle.fut_sizes.specs.Levels.{levels_within}
-use Rattle.fut_sizes.specs.Agreeing.{type_levels, of_type, Answer, then_do}
+use Rattle.fut_sizes.specs.Agreeing.{fits_i64, type_levels, of_type, Answer, then_do}
 use Rattle.fut_sizes.specs.Matching.{Found, found_size, type_found, counted, made_at, read, Opened, none_opened, inside, in_opened, meet, data_way, function_way}
 use Rattle.fut_sizes.specs.Steps.{Step, give, ask, and_then}
 
@@ -44,9 +44,10 @@ pub data Part : Type 0 where
 abbrev pub whole : Size → Part
 whole t = Applied t false []
 
+-- the value of a term as a size, if it is a name or a constant that an i64 holds
 abbrev pub named_value : FlatTerm → Option Free
 named_value (Use (ref.Bound b) at k) = Some (Name b.0)
-named_value (Strict (Integer c t) mark no_term) = Some (Const c)
+named_value (Strict (Integer c t) mark no_term) = cond (fits_i64 c) (Some (Const c)) None
 named_value e = None
 
 abbrev pub is_use : FlatTerm → Bool

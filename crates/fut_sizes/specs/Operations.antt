@@ -17,15 +17,15 @@ use Rattle.fut_types.specs.declared.Head.TheVariants as head
 use Rattle.fut_types.specs.Types.{Ty, Made, none, more, Sub}
 use Rattle.fut_typing.specs.Names.{Names}
 use Rattle.sized_types.specs.Sizes.{Free, Const, Name, Unknown, At, Size, Level, Built, Sizes, no_size, size_and}
-use Rattle.fut_sizes.specs.Agreeing.{Irregular, Answer, then_do, agree, no_size_of, type_levels, of_type}
+use Rattle.fut_sizes.specs.Agreeing.{fits_i64, Irregular, Answer, then_do, agree, no_size_of, type_levels, of_type}
 use Rattle.fut_sizes.specs.WrittenSizes.{part_of, changed_part, ascribed, coercion, declared}
 
 -- ---- what a size may name
 
--- a name or a constant, else the unknown i of a node
+-- a name or a constant that an i64 holds, else the unknown i of a node
 abbrev pub value_of : ℕ → ℕ → FlatTerm → Free
 value_of n i (Use (ref.Bound b) at k) = Name b.0
-value_of n i (Strict (Integer c t) mark no_term) = Const c
+value_of n i (Strict (Integer c t) mark no_term) = cond (fits_i64 c) (Const c) (Unknown n i)
 value_of n i e = Unknown n i
 
 abbrev pub is_literal : ℕ → FlatTerm → Bool

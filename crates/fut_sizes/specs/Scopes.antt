@@ -145,7 +145,11 @@ abbrev pub all_met : ℕ → ℕ → List BindId → Found → Answer (Unit {0})
 all_met at i [] σ = Ok tt
 all_met at i (b ∷ bs) σ = cond (is_still_open (σ.size i)) (Err (Escapes at)) (all_met at (suc i) bs σ)
 
--- what a let or a loop binds, in this scope
+-- what a pattern binds in this scope, which takes a value at a node; a size name that no level has is refused at another
+abbrev pub bound_at : Names → List BindId → ℕ → ℕ → FlatPattern → Size → Scope → Answer Taken
+bound_at N sizes unmet at p t scope = then_do (taken N sizes at p t (record { scope = with_size_names sizes scope; found = counted (length sizes) nothing_found }))
+    (λ k. then_do (all_met unmet 0 sizes k.found) (λ z. Ok k))
+
+-- in a let it is refused at the value
 unfoldable pub bound_by : Names → List BindId → ℕ → FlatPattern → Size → Scope → Answer Taken
-bound_by N sizes at p t scope = then_do (taken N sizes at p t (record { scope = with_size_names sizes scope; found = counted (length sizes) nothing_found }))
-    (λ k. then_do (all_met at 0 sizes k.found) (λ z. Ok k))
+bound_by N sizes at p t scope = bound_at N sizes at at p t scope

@@ -16,7 +16,7 @@ use Rattle.fut_sizes.specs.Agreeing.{Escapes, Answer, then_do, kept, no_size_of,
 use Rattle.fut_sizes.specs.WrittenSizes.{part_of, coerced, same_dim, parameter_size}
 use Rattle.fut_sizes.specs.Operations.{operation}
 use Rattle.fut_sizes.specs.Matching.{Found, nothing_found, read, none_opened, inside, in_opened, data_way, function_way, meet}
-use Rattle.fut_sizes.specs.Scopes.{Known, Scope, with_known, with_name, i64_size, used, names, as_taken, bound_by}
+use Rattle.fut_sizes.specs.Scopes.{Known, Scope, with_known, with_name, i64_size, used, names, as_taken, bound_at, bound_by}
 use Rattle.fut_sizes.specs.Functions.{value_name, Taking, function_size, unchosen, size_names, is_slot, quantified, closed}
 use Rattle.fut_sizes.specs.Compositions.{composition, composing, without_two}
 use Rattle.fut_sizes.specs.Steps.{Step, give, ask, and_then, note, node_size, drop, dropped_by}
@@ -316,12 +316,13 @@ module _ (N : Names) (types : Sub) where
         and_then (sized t [] (1 + lo + numbers c) scope) (λ second. and_then (finished (1 + lo + numbers c) second) (λ u.
         and_then (sized e [] (1 + lo + numbers c + numbers t) scope) (λ third. and_then (finished (1 + lo + numbers c + numbers t) third) (λ x.
         give (whole (kept lo 0 u x))))))))
+    -- a size name that no level of the pattern has is refused at the body
     sized (Loop mark sizes p first turns body) bs lo scope =
         and_then (sized first [] (1 + lo + pattern_numbers p) scope) (λ part.
         and_then (finished (1 + lo + pattern_numbers p) part) (λ t.
         and_then (turns_sized turns (1 + lo + pattern_numbers p + numbers first) scope) (λ each.
         and_then (turns_from (suc (levels t)) lo t (λ carried.
-        and_then (ask (bound_by N sizes (1 + lo + pattern_numbers p) p carried scope)) (λ k.
+        and_then (ask (bound_at N sizes (1 + lo + pattern_numbers p + numbers first + turn_numbers turns) (1 + lo + pattern_numbers p) p carried scope)) (λ k.
         and_then (pattern_noted p (1 + lo) carried) (λ y.
         and_then (ask (each k.scope)) (λ inner.
         and_then (condition_sized turns (1 + lo + pattern_numbers p + numbers first) inner) (λ z.

@@ -10,7 +10,7 @@ use Rattle.fut_typing.specs.Names.{Names}
 use Rattle.sized_types.specs.Sizes.{Size, levels, renamed}
 use Rattle.fut_sizes.specs.Agreeing.{Answer, then_do}
 use Rattle.fut_sizes.specs.Applications.{Part, whole}
-use Rattle.fut_sizes.specs.Scopes.{Scope, Taken, as_taken, bound_by}
+use Rattle.fut_sizes.specs.Scopes.{Scope, Taken, as_taken, bound_at}
 use Rattle.fut_sizes.specs.Sizing.{sized, finished, pattern_noted, turns_sized, condition_sized, turns_from, lacking, differing, another}
 use Rattle.fut_sizes.specs.Steps.{State, Done, Step, give, ask, and_then, dropped_by}
 use Rattle.size_forms.specs.Walked.{whole_sized}
@@ -86,7 +86,7 @@ module _ (N : Names) (types : Sub) where
     body_next k inner = and_then (condition_sized N types turns at inner) (λ z. and_then (sized N types body [] (at + turn_numbers turns) inner) (λ part. and_then (finished N types (at + turn_numbers turns) part) (renamed_next k)))
 
     abbrev a_turn : Step Size
-    a_turn = and_then (ask (bound_by N sizes (1 + n + pattern_numbers p) p carried scope)) (λ k. and_then (pattern_noted N types p (1 + n) carried) (λ y. and_then (ask (each k.scope)) (body_next k)))
+    a_turn = and_then (ask (bound_at N sizes (at + turn_numbers turns) (1 + n + pattern_numbers p) p carried scope)) (λ k. and_then (pattern_noted N types p (1 + n) carried) (λ y. and_then (ask (each k.scope)) (body_next k)))
 
     abbrev inside_next : Turned → Step Size
     inside_next inside = and_then (condition_sized N types turns at inside.scope) (λ z. and_then (whole_sized types body [] (at + turn_numbers turns) N inside.scope) (λ u. give (renamed (as_taken sizes inside.found) u)))
@@ -106,7 +106,7 @@ module _ (N : Names) (types : Sub) where
     by_bound s (Err x) = refl
 
     pub turn_is : (s : State) → a_turn s ≡ turn_sized types n sizes p turns at body each carried N scope s
-    turn_is s = by_bound s (bound_by N sizes (1 + n + pattern_numbers p) p carried scope)
+    turn_is s = by_bound s (bound_at N sizes (at + turn_numbers turns) (1 + n + pattern_numbers p) p carried scope)
 
   abbrev pub turned : ℕ → List BindId → FlatPattern → FlatTurns → ℕ → FlatTerm → (Scope → Answer Scope) → Scope → Size → Step Size
   turned n sizes p turns at body each scope carried = turn_sized types n sizes p turns at body each carried N scope

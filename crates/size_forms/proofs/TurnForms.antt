@@ -14,7 +14,7 @@ use Rattle.fut_types.specs.Types.{Sub}
 use Rattle.fut_typing.specs.Names.{Names}
 use Rattle.sized_types.specs.Sizes.{Size}
 use Rattle.fut_sizes.specs.Agreeing.{Answer, then_do}
-use Rattle.fut_sizes.specs.Scopes.{Scope, Taken, with_name, bound_by}
+use Rattle.fut_sizes.specs.Scopes.{Scope, Taken, with_name, bound_at, bound_by}
 use Rattle.fut_sizes.specs.Sizing.{pattern_noted, row_of}
 use Rattle.fut_sizes.specs.Steps.{Step, give, ask, and_then, note}
 use Rattle.size_arena.specs.declared.agreeing.SizeErr.{SizeErr}
@@ -109,7 +109,7 @@ module _ (form_of : LoopForm) (N : Names) (at : ℕ) (scope : Scope) where
 
 -- ---- a turn is entered
 
-module _ (N : Names) (types : Sub) (n first value : ℕ) (sizes : List BindId) (p : FlatPattern) (each : Scope → Answer Scope) (carried : Size) (scope : Scope) (f : Tables) (begins : value ≡ first + pattern_numbers p) (one : first ≡ n + 1) where
+module _ (N : Names) (types : Sub) (n body first value : ℕ) (sizes : List BindId) (p : FlatPattern) (each : Scope → Answer Scope) (carried : Size) (scope : Scope) (f : Tables) (begins : value ≡ first + pattern_numbers p) (one : first ≡ n + 1) where
   first_is : first ≡ 1 + n
   first_is = omega (arith, one)
 
@@ -119,28 +119,28 @@ module _ (N : Names) (types : Sub) (n first value : ℕ) (sizes : List BindId) (
   abbrev noted_next : Taken → Step Turned
   noted_next k = and_then (pattern_noted N types p (1 + n) carried) (λ z. each_next k)
 
-  bound_at : {r : Result Bindings SizeErr} → Answers Bound_so (bound_by N sizes value p carried scope) r → Answers Bound_so (bound_by N sizes (1 + n + pattern_numbers p) p carried scope) r
-  bound_at {r = r} h = subst (λ z. Answers Bound_so (bound_by N sizes z p carried scope) r) (begins ∙ ap (λ z. z + pattern_numbers p) first_is) h
+  bound_there : {r : Result Bindings SizeErr} → Answers Bound_so (bound_at N sizes body value p carried scope) r → Answers Bound_so (bound_at N sizes body (1 + n + pattern_numbers p) p carried scope) r
+  bound_there {r = r} h = subst (λ z. Answers Bound_so (bound_at N sizes body z p carried scope) r) (begins ∙ ap (λ z. z + pattern_numbers p) first_is) h
 
   noted_at : {g : Tables} {r : Result (Unit {0}) SizeErr} → Steps Done (pattern_noted N types p first carried) f g r → Steps Done (pattern_noted N types p (1 + n) carried) f g r
   noted_at {g = g} {r = r} h = subst (λ z. Steps Done (pattern_noted N types p z carried) f g r) first_is h
 
-  pub bind_stops : (x : SizeErr) → Answers Bound_so (bound_by N sizes value p carried scope) (Err x) → Steps inside_is (turn_entered types n sizes p each carried N scope) f f (Err x)
-  bind_stops x h = ask_stop Bound_so inside_is (bound_by N sizes (1 + n + pattern_numbers p) p carried scope) noted_next f f (Err x) x refl (bound_at h)
+  pub bind_stops : (x : SizeErr) → Answers Bound_so (bound_at N sizes body value p carried scope) (Err x) → Steps inside_is (turn_entered types n body sizes p each carried N scope) f f (Err x)
+  bind_stops x h = ask_stop Bound_so inside_is (bound_at N sizes body (1 + n + pattern_numbers p) p carried scope) noted_next f f (Err x) x refl (bound_there h)
 
-  module _ (b : Bindings) (g : Tables) (bound : Answers Bound_so (bound_by N sizes value p carried scope) (Ok b)) where
-    bound_then : (r : Result Inside SizeErr) → ((k : Taken) → Bound_so b k → Steps inside_is (noted_next k) f g r) → Steps inside_is (turn_entered types n sizes p each carried N scope) f g r
-    bound_then r rest = ask_then Bound_so inside_is (bound_by N sizes (1 + n + pattern_numbers p) p carried scope) noted_next f g (Ok b) b r refl (bound_at bound) rest
+  module _ (b : Bindings) (g : Tables) (bound : Answers Bound_so (bound_at N sizes body value p carried scope) (Ok b)) where
+    bound_then : (r : Result Inside SizeErr) → ((k : Taken) → Bound_so b k → Steps inside_is (noted_next k) f g r) → Steps inside_is (turn_entered types n body sizes p each carried N scope) f g r
+    bound_then r rest = ask_then Bound_so inside_is (bound_at N sizes body (1 + n + pattern_numbers p) p carried scope) noted_next f g (Ok b) b r refl (bound_there bound) rest
 
-    pub turn_note_stops : (x : SizeErr) → Steps Done (pattern_noted N types p first carried) f g (Err x) → Steps inside_is (turn_entered types n sizes p each carried N scope) f g (Err x)
+    pub turn_note_stops : (x : SizeErr) → Steps Done (pattern_noted N types p first carried) f g (Err x) → Steps inside_is (turn_entered types n body sizes p each carried N scope) f g (Err x)
     turn_note_stops x h = bound_then (Err x) (λ k so. steps_stop Done inside_is (pattern_noted N types p (1 + n) carried) (λ z. each_next k) f g g (Err x) x refl (noted_at h))
 
     module _ (u : Unit {0}) (noted : Steps Done (pattern_noted N types p first carried) f g (Ok u)) where
-      pub bring_stops : (x : SizeErr) → ((inner : Scope) → In_scope b.names.now inner → Answers map_is (each inner) (Err x)) → Steps inside_is (turn_entered types n sizes p each carried N scope) f g (Err x)
+      pub bring_stops : (x : SizeErr) → ((inner : Scope) → In_scope b.names.now inner → Answers map_is (each inner) (Err x)) → Steps inside_is (turn_entered types n body sizes p each carried N scope) f g (Err x)
       bring_stops x h = bound_then (Err x) (λ k so. steps_then Done inside_is (pattern_noted N types p (1 + n) carried) (λ z. each_next k) f g g (Ok u) u (Err x) refl (noted_at noted)
           (λ z e. ask_stop map_is inside_is (each k.scope) (λ inner. give (record { scope = inner; found = k.found })) g g (Err x) x refl (h k.scope so.scope)))
 
-      pub turn_enters : (made : Bor NumberMap) → ((inner : Scope) → In_scope b.names.now inner → Answers map_is (each inner) (Ok made)) → Steps inside_is (turn_entered types n sizes p each carried N scope) f g (Ok (record { names = made; bindings = b }))
+      pub turn_enters : (made : Bor NumberMap) → ((inner : Scope) → In_scope b.names.now inner → Answers map_is (each inner) (Ok made)) → Steps inside_is (turn_entered types n body sizes p each carried N scope) f g (Ok (record { names = made; bindings = b }))
       turn_enters made h = bound_then (Ok (record { names = made; bindings = b })) (λ k so. steps_then Done inside_is (pattern_noted N types p (1 + n) carried) (λ z. each_next k) f g g (Ok u) u (Ok (record { names = made; bindings = b })) refl (noted_at noted)
           (λ z e. ask_then map_is inside_is (each k.scope) (λ inner. give (record { scope = inner; found = k.found })) g g (Ok made) made (Ok (record { names = made; bindings = b })) refl (h k.scope so.scope)
           (λ inner within. given inside_is (record { names = made; bindings = b }) (record { scope = inner; found = k.found }) g (within, so.found))))

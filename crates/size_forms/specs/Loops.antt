@@ -9,7 +9,7 @@ use Rattle.fut_typing.specs.Names.{Names}
 use Rattle.sized_types.specs.Sizes.{Size, renamed}
 use Rattle.fut_sizes.specs.Agreeing.{Answer, then_do}
 use Rattle.fut_sizes.specs.Matching.{Found}
-use Rattle.fut_sizes.specs.Scopes.{Scope, with_name, as_taken, bound_by}
+use Rattle.fut_sizes.specs.Scopes.{Scope, with_name, as_taken, bound_at, bound_by}
 use Rattle.fut_sizes.specs.Sizing.{sized, finished, pattern_noted, condition_sized, lacking, differing, row_of}
 use Rattle.fut_sizes.specs.Steps.{Step, give, ask, and_then, note, drop, dropped_by}
 use Rattle.size_program.specs.Answers.{Going}
@@ -29,14 +29,14 @@ pub record Turned : Type 0 where
   pub scope : Scope
   pub found : Found
 
--- the parameter of a loop at a node takes what is carried
-abbrev pub turn_entered : Sub → ℕ → List BindId → FlatPattern → (Scope → Answer Scope) → Size → Going Turned
-turn_entered types n sizes p each carried N scope = and_then (ask (bound_by N sizes (1 + n + pattern_numbers p) p carried scope)) (λ k. and_then (pattern_noted N types p (1 + n) carried) (λ z.
+-- the parameter of a loop at a node takes what is carried; the body is at another
+abbrev pub turn_entered : Sub → ℕ → ℕ → List BindId → FlatPattern → (Scope → Answer Scope) → Size → Going Turned
+turn_entered types n body sizes p each carried N scope = and_then (ask (bound_at N sizes body (1 + n + pattern_numbers p) p carried scope)) (λ k. and_then (pattern_noted N types p (1 + n) carried) (λ z.
     and_then (ask (each k.scope)) (λ inner. give (record { scope = inner; found = k.found }))))
 
 -- the turns begin at a node, the body behind them
 abbrev pub turn_sized : Sub → ℕ → List BindId → FlatPattern → FlatTurns → ℕ → FlatTerm → (Scope → Answer Scope) → Size → Going Size
-turn_sized types n sizes p turns at body each carried N scope = and_then (turn_entered types n sizes p each carried N scope) (λ inside. and_then (condition_sized N types turns at inside.scope) (λ z.
+turn_sized types n sizes p turns at body each carried N scope = and_then (turn_entered types n (at + turn_numbers turns) sizes p each carried N scope) (λ inside. and_then (condition_sized N types turns at inside.scope) (λ z.
     and_then (and_then (sized N types body [] (at + turn_numbers turns) inside.scope) (λ part. finished N types (at + turn_numbers turns) part)) (λ u.
     give (renamed (as_taken sizes inside.found) u))))
 

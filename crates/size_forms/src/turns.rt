@@ -1,7 +1,8 @@
 // The turns of a loop.
-ghost use Rattle.std.specs.Prelude.{◌≡◌, IfOk};
+ghost use Rattle.std.specs.Prelude.{◌≡◌, ◌+◌, IfOk};
 ghost use Rattle.sized_types.specs.Sizes.{levels};
 ghost use Rattle.fut_flat.specs.Erased.{pattern_of};
+ghost use Rattle.fut_flat.specs.Numbers.{turn_numbers};
 ghost use Rattle.fut_flat.proofs.ErasedForms.{turns_of};
 ghost use Rattle.fut_sizes.specs.Agreeing.{Answer};
 ghost use Rattle.fut_sizes.specs.Scopes.{Scope};
@@ -26,7 +27,7 @@ use fut_flat::{Loop, LoopForm};
 use fut_scalar::NoMemory;
 use size_arena::{SizeErr, SizeTree, past};
 use size_loops::{differing, lacking};
-use size_patterns::{Bindings, bind, note_pattern};
+use size_patterns::{Bindings, Unmet, bind, bind_at, note_pattern};
 use size_program::{NumberMap, Program, Tables, drop_levels, dropped_by, with_name};
 use std::alloc::Global;
 
@@ -120,15 +121,16 @@ pub fn enter_turn<'a>(
     alloc: Global,
 ) -> Result<Inside<'a>, SizeErr>
     requires table { IsTable program.now.names.table.now }
-    ensures entered { (N : Names) (scope : Scope) (f : Scope → Answer Scope) → Knows program.now.names N → In_scope names.now scope → each_is (turns_of whole.now.form) at N each.now f → Steps inside_is (turn_entered (sub_of program.now.types.now) node whole.now.sizes.now (pattern_of whole.now.pat) f (size_of carried.now) N scope) tables.old tables.new result }
+    ensures entered { (N : Names) (scope : Scope) (f : Scope → Answer Scope) → Knows program.now.names N → In_scope names.now scope → each_is (turns_of whole.now.form) at N each.now f → Steps inside_is (turn_entered (sub_of program.now.types.now) node (at + turn_numbers (turns_of whole.now.form)) whole.now.sizes.now (pattern_of whole.now.pat) f (size_of carried.now) N scope) tables.old tables.new result }
     ensures held { IfOk result (λ i. Held i.bindings.found) }
 {
     let first = after(node, 1)?;
     let value = after_pattern(first, &whole.pat)?;
-    let bindings = bind(
+    let bindings = bind_at(
         bump,
         program,
         whole.sizes,
+        Unmet::Behind(at, &whole.form),
         value,
         &whole.pat,
         carried,

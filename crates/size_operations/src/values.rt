@@ -1,18 +1,19 @@
 // Terms that a size may name.
 ghost use Rattle.std.specs.Prelude.{◌≡◌};
 ghost use Rattle.fut_flat.specs.Erased.{term_of};
+ghost use Rattle.fut_sizes.specs.Agreeing.{fits_i64};
 ghost use Rattle.fut_sizes.specs.Applications.{is_use, named_value};
 ghost use Rattle.fut_sizes.specs.Operations.{is_literal, value_of};
 ghost use Rattle.size_arena.specs.Trees.{free_of};
-ghost use Rattle.size_operations.specs.Values.{free_held};
+ghost use Rattle.size_operations.specs.Values.{fitting, free_held, plain_value};
 
 use fut_flat::{Act, Exp, Form, Ref};
 use size_arena::{Free, same_free};
 
-/// The value of a term as a size, if it is a name or a constant.
+/// The name or the constant that a term is.
 #[tactic(auto, using(crate::proofs::ValueForms::values))]
-pub fn named_value(exp: &Exp<'_>) -> Option<Free>
-    ensures { free_held result ≡ named_value (term_of exp.now) }
+fn plain_value(exp: &Exp<'_>) -> Option<Free>
+    ensures { free_held result ≡ plain_value (term_of exp.now) }
 {
     match &exp.form {
         Form::Use(name, _) => match name {
@@ -32,7 +33,7 @@ pub fn named_value(exp: &Exp<'_>) -> Option<Free>
         },
         Form::Lets(row, body) => {
             if row.len() == 0 {
-                named_value(body)
+                plain_value(body)
             } else {
                 None
             }
@@ -44,7 +45,45 @@ pub fn named_value(exp: &Exp<'_>) -> Option<Free>
     }
 }
 
-/// The size that a term names: a name or a constant, else the unknown of a node with this number.
+/// Whether an `i64` holds a constant.
+fn fits_i64(value: u64) -> bool
+    ensures { result ≡ fits_i64 value }
+{
+    value < 9223372036854775808
+}
+
+/// A name, or a constant that an `i64` holds.
+#[tactic(auto, using(crate::proofs::ValueForms::fits))]
+fn fitting(free: Free) -> Option<Free>
+    ensures { free_held result ≡ fitting (free_of free) }
+{
+    match free {
+        Free::Const(value) => {
+            if fits_i64(value) {
+                Some(free)
+            } else {
+                None
+            }
+        }
+        Free::Name(_) => Some(free),
+        Free::Own(_, _) => Some(free),
+        Free::Unknown(_, _) => Some(free),
+        Free::Slot(_) => Some(free),
+    }
+}
+
+/// The value of a term as a size, if it is a name or a constant that an `i64` holds.
+#[tactic(auto, using(crate::proofs::ValueForms::named))]
+pub fn named_value(exp: &Exp<'_>) -> Option<Free>
+    ensures { free_held result ≡ named_value (term_of exp.now) }
+{
+    match plain_value(exp) {
+        Some(free) => fitting(free),
+        None => None,
+    }
+}
+
+/// The size that a term names: a name or a constant that an `i64` holds, else the unknown of a node with this number.
 #[tactic(auto, using(crate::proofs::ValueForms::sizes))]
 pub fn value_of(exp: &Exp<'_>, node: u32, number: u32) -> Free
     ensures { free_of result ≡ value_of node number (term_of exp.now) }
@@ -60,7 +99,7 @@ pub fn value_of(exp: &Exp<'_>, node: u32, number: u32) -> Free
 pub fn is_literal(exp: &Exp<'_>, value: u64) -> bool
     ensures { result ≡ is_literal value (term_of exp.now) }
 {
-    match named_value(exp) {
+    match plain_value(exp) {
         Some(free) => same_free(Free::Const(value), free),
         None => false,
     }

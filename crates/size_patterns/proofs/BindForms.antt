@@ -16,7 +16,7 @@ use Rattle.sized_types.specs.Sizes.{Free, Size, replaced, renaming, renamed}
 use Rattle.fut_sizes.specs.Agreeing.{Answer, Escapes, then_do}
 use Rattle.fut_sizes.specs.Matching as matching
 use Rattle.fut_sizes.specs.Matching.{counted, found_size, nothing_found}
-use Rattle.fut_sizes.specs.Scopes.{Scope, Taken, all_met, as_slot, as_taken, bound_by, is_still_open, taken, with_known}
+use Rattle.fut_sizes.specs.Scopes.{Scope, Taken, all_met, as_slot, as_taken, bound_at, bound_by, is_still_open, taken, with_known}
 use Rattle.fut_sizes.specs.Sizing.{let_scope, with_general}
 use Rattle.size_arena.specs.declared.agreeing.Refusal.TheVariants as refusal
 use Rattle.size_arena.specs.declared.agreeing.SizeErr.{SizeErr}
@@ -49,39 +49,47 @@ module _ (at : ℕ) (bs : List BindId) (σ : matching.Found) (i : ℕ) where
   pub met_more : (d : Free) → i < length bs → false ≡ is_still_open d → d ≡ σ.size i → all_met at 0 bs σ ≡ all_met at i (drop i bs) σ → all_met at 0 bs σ ≡ all_met at (i + 1) (drop (i + 1) bs) σ
   met_more d l f e h = h ∙ one_met false l (ap is_still_open (sym e) ∙ sym f) ∙ ap (λ z. all_met at z (drop (i + 1) bs) σ) (sym (add-one i))
 
-  pub not_met : (d : Free) → i < length bs → true ≡ is_still_open d → d ≡ σ.size i → all_met at 0 bs σ ≡ all_met at i (drop i bs) σ → Answers Done (all_met at 0 bs σ) (Err (size_err.Refused (refusal.Escapes at)))
-  not_met d l t e h = refuses (h ∙ one_met true l (ap is_still_open (sym e) ∙ sym t))
+  pub not_met : (r : Result (Unit {0}) SizeErr) (d : Free) → i < length bs → true ≡ is_still_open d → d ≡ σ.size i → all_met at 0 bs σ ≡ all_met at i (drop i bs) σ → Answers Done (Err (Escapes at)) r → Answers Done (all_met at 0 bs σ) r
+  not_met r d l t e h so = subst (λ z. Answers Done z r) (sym (h ∙ one_met true l (ap is_still_open (sym e) ∙ sym t))) so
 
   pub met_end : length bs ≤ i → all_met at 0 bs σ ≡ all_met at i (drop i bs) σ → Answers Done (all_met at 0 bs σ) (Ok tt)
   met_end l h = answers (h ∙ ap (λ z. all_met at i z σ) (drop_past bs i l)) refl
+
+-- refused at a node, which is told
+pub refused_at : (at n : ℕ) → n ≡ at → Answers Done (Err (Escapes at)) (Err (size_err.Refused (refusal.Escapes n)))
+refused_at at n same = refuses (ap (λ z. Err (Escapes z)) (sym same))
 
 -- ---- a pattern takes a value where its size names are bound
 
 abbrev pub Given : Type 0
 Given = Result Bindings SizeErr
 
-module _ (N : Names) (bs : List BindId) (at : ℕ) (p : FlatPattern) (t : Size) (scope : Scope) (f : Found) (k : Result (Bor NumberMap) SizeErr) (first : Answers (Taken_in f) (taken N bs at p t (unbound bs scope)) k) where
+module _ (N : Names) (bs : List BindId) (unmet at : ℕ) (p : FlatPattern) (t : Size) (scope : Scope) (f : Found) (k : Result (Bor NumberMap) SizeErr) (first : Answers (Taken_in f) (taken N bs at p t (unbound bs scope)) k) where
   abbrev met_next : Taken → Answer Taken
-  met_next z = then_do (all_met at 0 bs z.found) (λ u. Ok z)
+  met_next z = then_do (all_met unmet 0 bs z.found) (λ u. Ok z)
 
-  bound_is : bound_by N bs at p t scope ≡ then_do (taken N bs at p t (unbound bs scope)) met_next
-  unfolding bound_by
+  bound_is : bound_at N bs unmet at p t scope ≡ then_do (taken N bs at p t (unbound bs scope)) met_next
   bound_is = refl
 
-  pub met_stops : (x : SizeErr) → k ≡ Err x → Answers (Taken_in f) (bound_by N bs at p t scope) (Err x)
+  pub met_stops : (x : SizeErr) → k ≡ Err x → Answers (Taken_in f) (bound_at N bs unmet at p t scope) (Err x)
   met_stops x is = subst (λ z. Answers (Taken_in f) z (Err x)) (sym bound_is) (answered_not (Taken_in f) (taken N bs at p t (unbound bs scope)) k first (Taken_in f) met_next x is)
 
-  module _ (names : Bor NumberMap) (is : k ≡ Ok names) (m : Result (Unit {0}) SizeErr) (all : (σ : matching.Found) → Holds f σ → Answers Done (all_met at 0 bs σ) m) where
-    pub met_ends : (u : Unit {0}) → m ≡ Ok u → Answers (Taken_in f) (bound_by N bs at p t scope) (Ok names)
+  module _ (names : Bor NumberMap) (is : k ≡ Ok names) (m : Result (Unit {0}) SizeErr) (all : (σ : matching.Found) → Holds f σ → Answers Done (all_met unmet 0 bs σ) m) where
+    pub met_ends : (u : Unit {0}) → m ≡ Ok u → Answers (Taken_in f) (bound_at N bs unmet at p t scope) (Ok names)
     met_ends u ok =
         let d = answered (Taken_in f) (taken N bs at p t (unbound bs scope)) k first names is in
-        let e = answered Done (all_met at 0 bs d.result.found) m (all d.result.found d.related.found) u ok in
+        let e = answered Done (all_met unmet 0 bs d.result.found) m (all d.result.found d.related.found) u ok in
         answers (bound_is ∙ ap (λ z. then_do z met_next) d.is ∙ ap (λ z. then_do z (λ u. Ok d.result)) e.is) d.related
 
-    pub met_refused : (x : SizeErr) → m ≡ Err x → Answers (Taken_in f) (bound_by N bs at p t scope) (Err x)
+    pub met_refused : (x : SizeErr) → m ≡ Err x → Answers (Taken_in f) (bound_at N bs unmet at p t scope) (Err x)
     met_refused x err =
         let d = answered (Taken_in f) (taken N bs at p t (unbound bs scope)) k first names is in
-        subst (λ z. Answers (Taken_in f) z (Err x)) (sym (bound_is ∙ ap (λ z. then_do z met_next) d.is)) (answered_not Done (all_met at 0 bs d.result.found) m (all d.result.found d.related.found) (Taken_in f) (λ u. Ok d.result) x err)
+        subst (λ z. Answers (Taken_in f) z (Err x)) (sym (bound_is ∙ ap (λ z. then_do z met_next) d.is)) (answered_not Done (all_met unmet 0 bs d.result.found) m (all d.result.found d.related.found) (Taken_in f) (λ u. Ok d.result) x err)
+
+-- of a let the value is where a size name is refused
+pub bound_value : (N : Names) (bs : List BindId) (at : ℕ) (p : FlatPattern) (t : Size) (scope : Scope) (r : Given) → Answers Bound_so (bound_at N bs at at p t scope) r → Answers Bound_so (bound_by N bs at p t scope) r
+unfolding bound_by
+bound_value N bs at p t scope r h = h
 
 -- the same with the table
 module _ (a : Answer Taken) (f : Found) (k : Result (Bor NumberMap) SizeErr) (first : Answers (Taken_in f) a k) where

@@ -1,7 +1,9 @@
 -- What is bound, and what has been entered.
-use Rattle.std.specs.Prelude.{◌≡◌, List, [], ◌∷◌, ◌++◌, length}
+use Rattle.std.specs.Prelude.{◌≡◌, ℕ, ◌+◌, List, [], ◌∷◌, ◌++◌, length}
 use Rattle.std.specs.Borrow.{Bor}
 use Rattle.fut_scalar.specs.declared.place.BindId.{BindId}
+use Rattle.fut_flat.proofs.ErasedForms.{turns_of}
+use Rattle.fut_flat.specs.Numbers.{turn_numbers}
 use Rattle.fut_sizes.specs.Functions as functions
 use Rattle.fut_sizes.specs.Matching as matching
 use Rattle.fut_sizes.specs.Matching.{counted, nothing_found}
@@ -14,6 +16,8 @@ use Rattle.size_slots.specs.declared.slots.Found.{Found}
 use Rattle.size_slots.specs.Held.{Holds}
 use Rattle.size_written.specs.Answers.{held}
 use Rattle.size_patterns.specs.declared.binding.Bindings.{Bindings}
+use Rattle.size_patterns.specs.declared.binding.Unmet.{Unmet}
+use Rattle.size_patterns.specs.declared.binding.Unmet.TheVariants as unmet
 use Rattle.size_patterns.specs.declared.entering.Entered.{Entered}
 use Rattle.size_patterns.specs.declared.entering.Entry.{Entry}
 
@@ -25,6 +29,11 @@ Tells_scope names scope = In_scope names.now scope
 pub record Bound_so (b : Bindings) (k : Taken) : Type 0 where
   pub scope : In_scope b.names.now k.scope
   pub found : Holds b.found k.found
+
+-- the node at which a size name that no level has is refused
+abbrev pub unmet_at : Unmet → ℕ
+unmet_at (unmet.At n) = n
+unmet_at (unmet.Behind at f) = at + turn_numbers (turns_of f.now)
 
 -- before it takes anything its size names are bound, and their slots are open
 abbrev pub unbound : List BindId → Scope → Taken

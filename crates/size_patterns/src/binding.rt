@@ -1,17 +1,18 @@
 // What a `let` or a loop binds.
-ghost use Rattle.std.specs.Prelude.{◌≡◌, length, IfOk};
+ghost use Rattle.std.specs.Prelude.{◌≡◌, length, Err as Refuses, IfOk};
 ghost use Rattle.sized_types.specs.Sizes.{renamed};
 ghost use Rattle.fut_flat.specs.Erased.{pattern_of};
 ghost use Rattle.fut_flat.proofs.ErasedForms.{row_of};
+ghost use Rattle.fut_sizes.specs.Agreeing.{Escapes};
 ghost use Rattle.fut_sizes.specs.Matching.{Found as Finding, counted, nothing_found as nothing};
-ghost use Rattle.fut_sizes.specs.Scopes.{Scope, all_met, as_taken, bound_by, is_still_open, with_size_names};
+ghost use Rattle.fut_sizes.specs.Scopes.{Scope, all_met, as_taken, bound_at, bound_by, is_still_open, with_size_names};
 ghost use Rattle.fut_sizes.specs.Sizing.{let_scope, with_general};
 ghost use Rattle.fut_types.specs.Shapes.{IsTable};
 ghost use Rattle.fut_types.specs.Types.{Sub};
 ghost use Rattle.fut_typing.specs.Names.{Names};
 ghost use Rattle.alias_parts.specs.Known.{Knows};
 ghost use Rattle.size_arena.specs.Trees.{free_of, size_of};
-ghost use Rattle.size_patterns.specs.Bound.{Bound_so, Taken_in, Tells_scope, unbound};
+ghost use Rattle.size_patterns.specs.Bound.{Bound_so, Taken_in, Tells_scope, unbound, unmet_at};
 ghost use Rattle.size_patterns.specs.Heads.{Done};
 ghost use Rattle.size_program.specs.Answers.{Answers};
 ghost use Rattle.size_program.specs.Program.{sub_of};
@@ -23,7 +24,8 @@ use crate::heads::with_numbers;
 use crate::names::bind_numbers;
 use crate::taking::take;
 use bumpalo::Bump;
-use fut_flat::{Let, Pat, PatForm};
+use flat_numbers::after_turns;
+use fut_flat::{Let, LoopForm, Pat, PatForm};
 use fut_scalar::{BindId, NoMemory};
 use size_arena::{Free, Refusal, SizeErr, SizeTree};
 use size_program::{NumberMap, Program, with_general_name};
@@ -35,6 +37,14 @@ use std::alloc::Global;
 pub struct Bindings<'a> {
     pub names: &'a NumberMap<'a>,
     pub found: Found<'a>,
+}
+
+/// Where a size name that no level has is refused.
+#[derive(Clone, Copy)]
+pub enum Unmet<'f> {
+    At(u32),
+    /// Behind the turns of a loop, which begin at a node: at the loop's body. Its number is told only where it is asked for.
+    Behind(u32, &'f LoopForm<'f>),
 }
 
 /// What is known where size names are bound.
@@ -69,10 +79,30 @@ fn is_still_open(free: Free) -> bool
     matches!(free, Free::Slot(_))
 }
 
+/// The node at which a size name that no level has is refused.
+fn unmet_node(unmet: Unmet<'_>) -> Result<u32, NoMemory>
+    ensures { IfOk result (λ node. node ≡ unmet_at unmet) }
+{
+    match unmet {
+        Unmet::At(node) => Ok(node),
+        Unmet::Behind(first, form) => after_turns(first, form),
+    }
+}
+
+/// A size name that no level has is refused.
+fn refused(unmet: Unmet<'_>) -> Result<(), SizeErr>
+    ensures { Answers Done (Refuses (Escapes (unmet_at unmet))) result }
+{
+    match unmet_node(unmet) {
+        Ok(node) => Err(SizeErr::Refused(Refusal::Escapes(node))),
+        Err(NoMemory) => Err(SizeErr::Memory),
+    }
+}
+
 /// Whether each size name took the size of a level.
-fn all_met(at: u32, sizes: &[BindId], found: &Found<'_>) -> Result<(), SizeErr>
+fn all_met(unmet: Unmet<'_>, sizes: &[BindId], found: &Found<'_>) -> Result<(), SizeErr>
     requires { Fall found.now.slots }
-    ensures { (σ : Finding) → Holds found.now σ → Answers Done (all_met at 0 sizes.now σ) result }
+    ensures { (σ : Finding) → Holds found.now σ → Answers Done (all_met (unmet_at unmet) 0 sizes.now σ) result }
 {
     for i in 0..sizes.len() {
         let number = match u32::try_from(i) {
@@ -80,7 +110,7 @@ fn all_met(at: u32, sizes: &[BindId], found: &Found<'_>) -> Result<(), SizeErr>
             Err(_) => return Err(SizeErr::Memory),
         };
         if is_still_open(read_free(found, Free::Slot(number))) {
-            return Err(SizeErr::Refused(Refusal::Escapes(at)));
+            return refused(unmet);
         }
     }
     Ok(())
@@ -109,6 +139,7 @@ fn take_met<'a>(
     bump: &'a Bump,
     program: &Program<'a>,
     sizes: &[BindId],
+    unmet: Unmet<'_>,
     at: u32,
     pat: &Pat<'_>,
     size: &'a SizeTree<'a>,
@@ -117,11 +148,11 @@ fn take_met<'a>(
 ) -> Result<&'a NumberMap<'a>, SizeErr>
     requires is_table { IsTable program.now.names.table.now }
     requires holds { Held table.old }
-    ensures gives { (N : Names) (scope : Scope) → Knows program.now.names N → In_scope names.now (with_size_names sizes.now scope) → Holds table.old (counted (length sizes.now) nothing) → Answers (Taken_in table.new) (bound_by N sizes.now at (pattern_of pat.now) (size_of size.now) scope) result }
+    ensures gives { (N : Names) (scope : Scope) → Knows program.now.names N → In_scope names.now (with_size_names sizes.now scope) → Holds table.old (counted (length sizes.now) nothing) → Answers (Taken_in table.new) (bound_at N sizes.now (unmet_at unmet) at (pattern_of pat.now) (size_of size.now) scope) result }
     ensures holds { IfOk result (λ made. Held table.new) }
 {
     match take(bump, program, sizes, at, pat, size, names, table) {
-        Ok(made) => match all_met(at, sizes, table) {
+        Ok(made) => match all_met(unmet, sizes, table) {
             Ok(()) => Ok(made),
             Err(error) => Err(error),
         },
@@ -134,6 +165,7 @@ fn bind_in<'a>(
     bump: &'a Bump,
     program: &Program<'a>,
     sizes: &[BindId],
+    unmet: Unmet<'_>,
     at: u32,
     pat: &Pat<'_>,
     size: &'a SizeTree<'a>,
@@ -141,7 +173,7 @@ fn bind_in<'a>(
 ) -> Result<Bindings<'a>, SizeErr>
     requires is_table { IsTable program.now.names.table.now }
     requires holds { Held before.found }
-    ensures gives { (N : Names) (scope : Scope) → Knows program.now.names N → Bound_so before.entry (unbound sizes.now scope) → Answers Bound_so (bound_by N sizes.now at (pattern_of pat.now) (size_of size.now) scope) result }
+    ensures gives { (N : Names) (scope : Scope) → Knows program.now.names N → Bound_so before.entry (unbound sizes.now scope) → Answers Bound_so (bound_at N sizes.now (unmet_at unmet) at (pattern_of pat.now) (size_of size.now) scope) result }
     ensures holds { IfOk result (λ made. Held made.found) }
 {
     let mut found = before.found;
@@ -149,6 +181,7 @@ fn bind_in<'a>(
         bump,
         program,
         sizes,
+        unmet,
         at,
         pat,
         size,
@@ -164,6 +197,28 @@ fn bind_in<'a>(
 /// node.
 ///
 /// `Err`: the value has not the sizes that are written, or a size name is that of no level; or memory ran out.
+pub fn bind_at<'a>(
+    bump: &'a Bump,
+    program: &Program<'a>,
+    sizes: &[BindId],
+    unmet: Unmet<'_>,
+    at: u32,
+    pat: &Pat<'_>,
+    size: &'a SizeTree<'a>,
+    names: &'a NumberMap<'a>,
+    alloc: Global,
+) -> Result<Bindings<'a>, SizeErr>
+    requires is_table { IsTable program.now.names.table.now }
+    ensures gives { (N : Names) (scope : Scope) → Knows program.now.names N → In_scope names.now scope → Answers Bound_so (bound_at N sizes.now (unmet_at unmet) at (pattern_of pat.now) (size_of size.now) scope) result }
+    ensures holds { IfOk result (λ made. Held made.found) }
+{
+    match unbound(sizes, names, bump, alloc) {
+        Ok(before) => bind_in(bump, program, sizes, unmet, at, pat, size, before),
+        Err(NoMemory) => Err(SizeErr::Memory),
+    }
+}
+
+/// The same where a size name that no level has is refused at the value.
 pub fn bind<'a>(
     bump: &'a Bump,
     program: &Program<'a>,
@@ -178,10 +233,17 @@ pub fn bind<'a>(
     ensures gives { (N : Names) (scope : Scope) → Knows program.now.names N → In_scope names.now scope → Answers Bound_so (bound_by N sizes.now at (pattern_of pat.now) (size_of size.now) scope) result }
     ensures holds { IfOk result (λ made. Held made.found) }
 {
-    match unbound(sizes, names, bump, alloc) {
-        Ok(before) => bind_in(bump, program, sizes, at, pat, size, before),
-        Err(NoMemory) => Err(SizeErr::Memory),
-    }
+    bind_at(
+        bump,
+        program,
+        sizes,
+        Unmet::At(at),
+        at,
+        pat,
+        size,
+        names,
+        alloc,
+    )
 }
 
 /// A sized type of what is known behind a pattern, where size names stand for what they took.

@@ -16,7 +16,7 @@ mod parameters;
 mod rows;
 mod taking;
 
-pub use binding::{Bindings, bind, let_scope, rename_taken};
+pub use binding::{Bindings, Unmet, bind, bind_at, let_scope, rename_taken};
 pub use entering::{Entered, enter_all};
 pub use heads::{has_parameters, with_head};
 pub use names::{bound_names, head_names, part_names, pattern_names};

@@ -111,7 +111,7 @@ module _ (N : Names) (types : Sub) (p : Program) (knows : Knows p.names N) (l : 
   body_number = at + turn_numbers (turns_of l.form)
 
   abbrev entering : Step Turned
-  entering = turn_entered types n l.sizes.now (pattern_of l.pat) each (size_of c.size.now) N scope
+  entering = turn_entered types n body_number l.sizes.now (pattern_of l.pat) each (size_of c.size.now) N scope
 
   abbrev renamed_so : Turned → Size → Step Size
   renamed_so inside u = give (renamed (as_taken l.sizes.now inside.found) u)

@@ -1,7 +1,7 @@
 -- Slices and indices of an array are of the sized type that is left: how many rows a slice has is met, or
 -- the number that it goes to; `[:]` and `[::-1]` keep a size.
 use Rattle.std.specs.Prelude.{ℤ, pos, negsuc, nat_le}
-use Rattle.std.proofs.Common.{◌≡◌, ℕ, zero, suc, ◌+◌, ◌-◌, ◌≤◌, List, [], ◌∷◌, length, take, drop, reverse, Bool, true, false, ◌⊎◌, inl, inr, ◌&&◌, Some, None, Ok, refl, sym, ap, ◌∙◌, subst, arith, leb-true}
+use Rattle.std.proofs.Common.{◌≡◌, ℕ, zero, suc, ◌+◌, ◌-◌, ◌≤◌, List, [], ◌∷◌, length, take, drop, reverse, Bool, true, false, ◌⊎◌, inl, inr, ◌&&◌, Some, None, Ok, refl, sym, ap, ◌∙◌, subst, arith, leb-true, cond, ◌^◌, lt-ltb}
 use Rattle.std.proofs.lemmas.List.{length-take-le, length-drop, length-reverse}
 use Rattle.fut_scalar.specs.declared.place.BindId.{BindId}
 use Rattle.fut_scalar.specs.declared.place.Place.{Place}
@@ -25,7 +25,7 @@ use Rattle.fut_meaning.specs.Outcomes.{Out, Val, Fail, Wrong, and_then, gives, t
 use Rattle.fut_meaning.specs.Values.{values}
 use Rattle.fut_meaning.proofs.Data.{datum_of_as}
 use Rattle.fut_meaning.proofs.Safe.{Every}
-use Rattle.sized_types.specs.Sizes.{Free, Unknown, Dim, At, Size, Level, Sizes}
+use Rattle.sized_types.specs.Sizes.{Free, Const, Unknown, Dim, At, Size, Level, Sizes}
 use Rattle.fut_sizes.specs.Operations.{operation, value_of, slice_size, is_literal, indexed}
 use Rattle.fut_sizes.specs.Rules.{part_sizes}
 use Rattle.fut_sizes.specs.Suiting.{Each, Scoped, Data}
@@ -213,7 +213,8 @@ module _ (N : Names) (types : Sub) (τ : Meant) (W : World) (S : Sound N types W
     number_stays : (i : ℕ) (e : FlatTerm) (at k : ℕ) → Size_number N types W e at → k ≡ free m (value_of n i e) → k ≡ number (at_node n F m) no_frames (At (value_of n i e))
     unfolding at_node
     number_stays i (Use (ref.Bound b) mark j) at k p e = e
-    number_stays i (Strict (Integer c t) mark no_term) at k p e = e
+    number_stays i (Strict (Integer c t) mark no_term) at k p e = let fits = lt-ltb c (2 ^ 63) p.1 in
+        subst (λ b. k ≡ number (at_node n F m) no_frames (At (cond b (Const c) (Unknown n i)))) (sym fits) (e ∙ ap (λ b. free m (cond b (Const c) (Unknown n i))) fits)
     number_stays i e at k p q = absurd p
 
     ends : (i : ℕ) (e : FlatTerm) (at u v : ℕ) → (value_of n i e ≡ Unknown n i) ⊎ Size_number N types W e at → F i ≡ v - u → ((n i : ℕ) → Size_number N types W e at → v - u ≡ free m (value_of n i e)) → v - u ≡ number (at_node n F m) no_frames (At (value_of n i e))

@@ -1,6 +1,6 @@
 -- What the parts of an operation are worth, where they are names or literals.
 use Rattle.std.specs.Prelude.{pos}
-use Rattle.std.proofs.Common.{◌≡◌, ◌⊎◌, ℕ, ◌+◌, List, [], ◌∷◌, Bool, true, false, cond, Some, refl, sym, ap, ◌∙◌, subst, inl, inr, eqb-true}
+use Rattle.std.proofs.Common.{◌≡◌, ◌⊎◌, ℕ, ◌+◌, List, [], ◌∷◌, Bool, true, false, cond, Some, refl, sym, ap, ◌∙◌, subst, inl, inr, eqb-true, ◌^◌, lt-ltb}
 use Rattle.fut_scalar.specs.declared.place.BindId.{BindId}
 use Rattle.fut_scalar.specs.declared.scalar.IntType.{IntType}
 use Rattle.fut_scalar.specs.declared.scalar.IntType.TheVariants.{I64}
@@ -22,7 +22,7 @@ use Rattle.fut_meaning.specs.Outcomes.{Val}
 use Rattle.fut_meaning.specs.Telling.{size_value}
 use Rattle.fut_meaning.specs.Values.{Scalar_value, Evaluate}
 use Rattle.fut_meaning.proofs.Ever.{open_up}
-use Rattle.sized_types.specs.Sizes.{Free, Name, Variable, Size, Hole, Open, Level, Built, Fun, Sizes, no_size, size_and}
+use Rattle.sized_types.specs.Sizes.{Free, Const, Name, Unknown, Variable, Size, Hole, Open, Level, Built, Fun, Sizes, no_size, size_and}
 use Rattle.fut_sizes.specs.Operations.{value_of}
 use Rattle.fut_sizes.specs.Scopes.{i64_size}
 use Rattle.fut_sizes.specs.Scoping.{Context}
@@ -141,5 +141,6 @@ module _ (N : Names) (types : Sub) (τ : Meant) (W : World) (S : Sound N types W
   number_is m n i (Use (ref.Bound b) mark k) at v p w h = (is_i64 m at v p.0 h, w p.1 p.0)
   number_is m n i (Strict (Integer c t) mark no_term) at v p w h =
       let z = is_i64 m at v p.0 h in
-      (z, literal_word N types τ W S one c (literal_type N types τ W S one t at) v w (typed_literal (literal_type N types τ W S one t at) c v w z) p.1)
+      (z, literal_word N types τ W S one c (literal_type N types τ W S one t at) v w (typed_literal (literal_type N types τ W S one t at) c v w z) p.1
+          ∙ ap (λ b. free m (cond b (Const c) (Unknown n i))) (sym (lt-ltb c (2 ^ 63) p.1)))
   number_is m n i e at v p w h = absurd p

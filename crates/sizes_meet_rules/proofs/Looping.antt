@@ -19,7 +19,7 @@ use Rattle.fut_sizes.specs.Applications.{Part, whole}
 use Rattle.fut_sizes.specs.Functions.{is_slot}
 use Rattle.fut_sizes.specs.Matching.{Found, nothing_found, counted}
 use Rattle.fut_sizes.specs.Rules.{Each_hole, Each_holes, Away, taken_by, Pattern_takes, Loops, counter, Sized, Turns_sized}
-use Rattle.fut_sizes.specs.Scopes.{Scope, with_name, names, Taken, as_taken, bound_by}
+use Rattle.fut_sizes.specs.Scopes.{Scope, with_name, names, Taken, as_taken, bound_at, bound_by}
 use Rattle.fut_sizes.specs.Scoping.{Context, with_names, with_pattern}
 use Rattle.fut_sizes.specs.Sizing.{finished, row_of, lacking, differing, turns_from, pattern_noted, sized, turns_sized, condition_sized}
 use Rattle.fut_sizes.specs.Steps.{State, Done, Step, give, ask, and_then, at_node}
@@ -28,7 +28,7 @@ use Rattle.sizes_meet_rules.specs.Known.{Formed, All_formed, Says, Is_const, Kno
 use Rattle.sizes_meet_rules.specs.Plain.{Is_scalar, Plain_pattern, Plain_term, Plain_turns}
 use Rattle.sizes_meet_rules.proofs.Binding.{Behind, value_behind, behind_elsewhere, behind_judged, not_taken}
 use Rattle.sizes_meet_rules.proofs.Forming.{data_of}
-use Rattle.sizes_meet_rules.proofs.Showing.{numbers_some, Law_of, alone, bound_ran}
+use Rattle.sizes_meet_rules.proofs.Showing.{numbers_some, Law_of, alone, bound_ran, bound_there}
 use Rattle.sizes_meet_rules.proofs.Meeting.{then_ok, asked, same_ok, at_itself, at_another, With_met, met_wider, met_settled, met_outside, says_more, says_settled, In_nodes, elsewhere_narrower, inside_wider, away_of, Meets}
 use Rattle.sizes_meet_rules.proofs.Naming.{Named_by, named_no_slot, Not_there, known_with, judged_names}
 use Rattle.sizes_meet_rules.proofs.Operating.{Level_of, level_of}
@@ -379,19 +379,19 @@ module _ (N : Names) (types : Sub) (home : ℕ → ℕ) (K : Kinds) (places : Ki
   -- ---- the loop
   module _ (p : FlatPattern) (first : FlatTerm) (turns : FlatTurns) (body : FlatTerm) (lo mid from at hi : ℕ) (m1 : 1 + lo + pattern_numbers p ≡ mid) (m2 : mid + numbers first ≡ from) (m3 : from + turn_numbers turns ≡ at) (m4 : at + numbers body ≡ hi) where
     abbrev loop_turn : Scope → (Scope → Answer Scope) → Size → Step Size
-    loop_turn scope each carried = and_then (ask (bound_by N [] mid p carried scope)) (λ k. and_then (pattern_noted N types p (1 + lo) carried) (λ y. inner_turn turns body from at each k.scope k.found))
+    loop_turn scope each carried = and_then (ask (bound_at N [] at mid p carried scope)) (λ k. and_then (pattern_noted N types p (1 + lo) carried) (λ y. inner_turn turns body from at each k.scope k.found))
 
     record Turn_ran (scope : Scope) (each : Scope → Answer Scope) (carried : Size) (st : State) (r : Done Size) : Type 0 where
       taken : Taken
       pattern : Done (Unit {0})
-      taken_ok : bound_by N [] mid p carried scope ≡ Ok taken
+      taken_ok : bound_at N [] at mid p carried scope ≡ Ok taken
       pattern_ok : pattern_noted N types p (1 + lo) carried st ≡ Ok pattern
       rest : Inner_gives turns body from at each taken.scope taken.found pattern.state r
 
     turn_ran : (scope : Scope) (each : Scope → Answer Scope) (carried : Size) (st : State) (r : Done Size) → loop_turn scope each carried st ≡ Ok r → Turn_ran scope each carried st r
     turn_ran scope each carried st r q =
-        let x1 = then_ok (ask (bound_by N [] mid p carried scope) st) q in
-        let a1 = asked (bound_by N [] mid p carried scope) st x1.first x1.done in
+        let x1 = then_ok (ask (bound_at N [] at mid p carried scope) st) q in
+        let a1 = asked (bound_at N [] at mid p carried scope) st x1.first x1.done in
         let x2 = then_ok (pattern_noted N types p (1 + lo) carried x1.first.state) x1.rest in
         record { taken = x1.first.result; pattern = x2.first; taken_ok = a1.answer; pattern_ok = ap (pattern_noted N types p (1 + lo) carried) (sym a1.state) ∙ x2.done; rest = inner_gives turns body from at each x1.first.result.scope x1.first.result.found x2.first.state r x2.rest }
 
@@ -480,7 +480,7 @@ module _ (N : Names) (types : Sub) (home : ℕ → ℕ) (K : Kinds) (places : Ki
 
         pattern_taken : Pattern_ran types home K places N p (c ds) (record { scope = scope; found = counted 0 nothing_found }) Q.taken
         pattern_taken = let settled = says_settled (With_met In lo from) Vars (c ds) (met_settled N types home In lo hi lo from E) (carried_says ds) in
-            taken_is types home K places N mid p (1 + lo) T plain fits (c ds) (carried_data ds) (carried_says ds).formed settled.0 settled.1 (carried_typed ds) (record { scope = scope; found = counted 0 nothing_found }) Q.taken (bound_ran N mid p (c ds) scope Q.taken Q.taken_ok)
+            taken_is types home K places N mid p (1 + lo) T plain fits (c ds) (carried_data ds) (carried_says ds).formed settled.0 settled.1 (carried_typed ds) (record { scope = scope; found = counted 0 nothing_found }) Q.taken (bound_there N at mid p (c ds) scope Q.taken Q.taken_ok)
 
         P : Noted_pattern types home K places N p (1 + lo) (c ds) s Q.pattern.state
         P = noted_is types home K places N p (1 + lo) plain (c ds) pattern_taken.parts s Q.pattern Q.pattern_ok

@@ -22,7 +22,7 @@ use Rattle.fut_typing.specs.Names.{count}
 use Rattle.fut_typing.specs.Rules.{Rule, Indexed, bounds, All_are}
 use Rattle.fut_typing.specs.Typing.{term_types, operand}
 use Rattle.sized_types.specs.Sizes.{Free, Const, Name, Unknown, Dim, At, Bound, levels, Variable, Inferred, Written, Size, Hole, Open, Level, Built, Fun, Sizes, no_size, size_and, erased, all_erased}
-use Rattle.fut_sizes.specs.Agreeing.{Answer, Irregular, then_do, type_levels, of_type, of_types, no_size_of}
+use Rattle.fut_sizes.specs.Agreeing.{fits_i64, Answer, Irregular, then_do, type_levels, of_type, of_types, no_size_of}
 use Rattle.fut_types.specs.Shapes.{place, place_from, part_at, part_named, HasPart}
 use Rattle.fut_typing.proofs.Members.{In as Is_in}
 use Rattle.sizes_meet_rules.proofs.Covering.{Apart, numbers_apart, here_place, there_place, placed_label, all_written}
@@ -222,7 +222,11 @@ module _ (N : Names) (types : Sub) (K : Kinds) (places : Kind) (In : Free → Ty
   value_in n i (Use (ref.Bound b) p k) at met w z = w z
   value_in n i (Use (ref.Prim r) p k) at met w z = met i
   value_in n i (Use (ref.Scalar r) p k) at met w z = met i
-  value_in n i (Strict (Integer c t) mark no_term) at met w z = constants c
+  value_in n i (Strict (Integer c t) mark no_term) at met w z = by_fit (fits_i64 c)
+    where
+      by_fit : (b : Bool) → In (cond b (Const c) (Unknown n i))
+      by_fit true = constants c
+      by_fit false = met i
   value_in n i e at met w z = met i
 
   -- ---- written types

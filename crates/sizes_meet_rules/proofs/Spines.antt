@@ -1,5 +1,5 @@
 -- A function by its name, applied to arguments of data, meets the rules where the arguments do.
-use Rattle.std.proofs.Common.{◌≡◌, ◌⊎◌, ℕ, zero, suc, ◌+◌, ◌<◌, ◌≤◌, List, [], ◌∷◌, ◌++◌, Bool, true, false, cond, nat_eq, Option, Some, None, Ok, refl, sym, ap, ◌∙◌, subst, arith, inl, inr, eq-eqb, lt-ltb, le-ltb}
+use Rattle.std.proofs.Common.{◌≡◌, ◌⊎◌, ℕ, zero, suc, ◌+◌, ◌<◌, ◌≤◌, List, [], ◌∷◌, ◌++◌, Bool, true, false, cond, nat_eq, Option, Some, None, Ok, refl, sym, ap, ◌∙◌, subst, arith, inl, inr, eq-eqb, lt-ltb, le-ltb, ◌^◌, ltb-true}
 use Rattle.std.specs.Prelude.{length}
 use Rattle.std.proofs.lemmas.Bool.{ne_eqb}
 use Rattle.fut_scalar.specs.declared.place.BindId.{BindId}
@@ -14,7 +14,7 @@ use Rattle.fut_typing.specs.Names.{Names}
 use Rattle.fut_typing.specs.Scopes.{Scope as TypeScope}
 use Rattle.fut_typing.specs.Typing.{Typed}
 use Rattle.sized_types.specs.Sizes.{Free, Const, Name, Own, Unknown, Slot, Variable, Size, Hole, Open, Level, Built, Fun, erased, replaced, renamed, opened}
-use Rattle.fut_sizes.specs.Agreeing.{Answer}
+use Rattle.fut_sizes.specs.Agreeing.{fits_i64, Answer}
 use Rattle.fut_sizes.specs.Applications.{Later, Argument, Early, Part, Applied, whole, named_value, is_arrow, with_use, uses}
 use Rattle.fut_sizes.specs.Functions.{is_slot, unknown_slot}
 use Rattle.fut_sizes.specs.Matching.{Found, nothing_found, found_size, read, Opened, none_opened, dim_in, in_opened}
@@ -209,7 +209,11 @@ module _ (N : Names) (types : Sub) (home : ℕ → ℕ) (K : Kinds) (places : Ki
           value_in : (e : FlatTerm) → Value_known N types home K places data_places In Vars scope e (types g.node) → Plain_argument e (types g.node) → (v : Option Free) → Given_as e v → With_met In at hi (value_now v)
           value_in e w h v (inl z) = subst (λ o. With_met In at hi (value_now o)) (sym z) (inr (omega arith, omega (arith, a2, a3)))
           value_in (Use (ref.Bound y) p i) w h v (inr z) = let n = w (i64_of (types g.node) h z.1) in subst (λ o. With_met In at hi (value_now o)) (sym z.0) (inl (n.number (number_is n.size n.says.formed (number_name In Vars types home scope y.0 n).1)))
-          value_in (Strict (Integer c i) mark no_term) w h v (inr z) = subst (λ o. With_met In at hi (value_now o)) (sym z.0) (inr tt)
+          value_in (Strict (Integer c i) mark no_term) w h v (inr z) = by_fit (fits_i64 c) z.0
+            where
+              by_fit : (b : Bool) → v ≡ cond b (Some (Const c)) None → With_met In at hi (value_now v)
+              by_fit true q = subst (λ o. With_met In at hi (value_now o)) (sym q) (inr tt)
+              by_fit false q = subst (λ o. With_met In at hi (value_now o)) (sym q) (inr (omega arith, omega (arith, a2, a3)))
           value_in e w h v (inr z) = subst (λ o. With_met In at hi (value_now o)) (sym z.0) (inr (omega arith, omega (arith, a2, a3)))
 
           all_in : (i : ℕ) → With_met In at hi (inside i)
@@ -232,7 +236,11 @@ module _ (N : Names) (types : Sub) (home : ℕ → ℕ) (K : Kinds) (places : Ki
             value_given : (e : FlatTerm) → Value_known N types home K places data_places In Vars scope e (types g.node) → Plain_argument e (types g.node) → (v : Option Free) → Given_as e v → Is_value N types s home e g.node G (value_now v) ⊎ (value_now v ≡ Unknown at (next + k))
             value_given e w h v (inl z) = inr (ap value_now z)
             value_given (Use (ref.Bound x) p i) w h v (inr z) = let n = w (i64_of (types g.node) h z.1) in let a = number_name In Vars types home scope x.0 n in inl (ap value_now z.0, J.sizes x.0 n.size (n.known ∙ ap (λ b. Some (record { size = n.size; is_general = b })) a.0) ∙ ap Some (number_size n.size n.says.formed a.1))
-            value_given (Strict (Integer c i) mark no_term) w h v (inr z) = inl (ap value_now z.0, at_node ∙ number_size g.size M.inner.says.formed (M.inner.typed ∙ h.0), h.1)
+            value_given (Strict (Integer c i) mark no_term) w h v (inr z) = by_fit (fits_i64 c) refl z.0
+              where
+                by_fit : (b : Bool) → fits_i64 c ≡ b → v ≡ cond b (Some (Const c)) None → Is_value N types s home (Strict (Integer c i) mark no_term) g.node G (value_now v) ⊎ (value_now v ≡ Unknown at (next + k))
+                by_fit true fits q = inl (ap value_now q, at_node ∙ number_size g.size M.inner.says.formed (M.inner.typed ∙ h), ltb-true c (2 ^ 63) fits)
+                by_fit false fits q = inr (ap value_now q)
             value_given e w h v (inr z) = inr (ap value_now z.0)
 
             known_low : (i : ℕ) → i < k → Outside N types s home at (1 + at) (inside i) ⊎ (inside i ≡ Unknown at (next + i))

@@ -1,6 +1,6 @@
 -- The terms of which the law speaks: names, operations, functions of data, lets of data and of functions, branches, loops and
 -- applications of names to all of their arguments, which are data. A node that binds a name is the home of that name.
-use Rattle.std.specs.Prelude.{◌≡◌, ◌⊎◌, ℕ, ◌+◌, ◌^◌, ◌<◌, Bool, true, false, List, [], ◌∷◌, None}
+use Rattle.std.specs.Prelude.{◌≡◌, ◌⊎◌, ℕ, ◌+◌, Bool, true, false, List, [], ◌∷◌, None}
 use Rattle.fut_scalar.specs.declared.place.BindId.{BindId}
 use Rattle.fut_scalar.specs.declared.scalar.ScalarType.{ScalarType}
 use Rattle.fut_scalar.specs.declared.scalar.ScalarType.TheVariants as sort
@@ -86,10 +86,10 @@ abbrev pub number_ty : Ty → Bool
 number_ty (Made (head.Scalar (sort.Int i)) ts) = true
 number_ty t = false
 
--- an argument that is a literal is of type i64, which holds it, and a name that is a whole number is of that type too
+-- an argument that is a literal is of type i64, and a name that is a whole number is of that type too
 abbrev pub Plain_argument : FlatTerm → Ty → Type 0
 Plain_argument (Use r at k) t = (t ≡ i64_ty) ⊎ (number_ty t ≡ false)
-Plain_argument (Strict (Integer c i) mark no_term) t = (t ≡ i64_ty) × (c < 2 ^ 63)
+Plain_argument (Strict (Integer c i) mark no_term) t = t ≡ i64_ty
 Plain_argument e t = Unit {0}
 
 module _ (types : Sub) (home : ℕ → ℕ) (K : Kinds) (places : Kind) where
