@@ -26,12 +26,12 @@ other_two i64 n (x ∷ y ∷ []) q = elim (q refl) [ ]
 other_two i64 n (x ∷ y ∷ z ∷ es) q = refl
 
 module _ (i64 : Bool) (n : ℕ) where
-  pub two_parts : (es : List Exp) (e : Exp) (a : Bool) (d : Free) → length es ≡ 2 → a ≡ is_literal 0 (term_of (get_or es 0 e)) → d ≡ range_size n (both i64 a) (term_of (get_or es 1 e)) → d ≡ counted i64 n (terms (map term_of es))
+  pub two_parts : (es : List Exp) (e : Exp) (a b : Bool) (d : Free) → length es ≡ 2 → a ≡ is_literal 0 (term_of (get_or es 0 e)) → b ≡ both i64 a → d ≡ range_size n b (term_of (get_or es 1 e)) → d ≡ counted i64 n (terms (map term_of es))
   unfolding terms
-  two_parts [] e a d l h is = absurd (omega (arith, l))
-  two_parts (x ∷ []) e a d l h is = absurd (omega (arith, l))
-  two_parts (x ∷ y ∷ []) e a d l h is = is ∙ ap (λ z. range_size n (both i64 z) (term_of y)) h
-  two_parts (x ∷ y ∷ z ∷ es) e a d l h is = absurd (omega (arith, l))
+  two_parts [] e a b d l h g is = absurd (omega (arith, l))
+  two_parts (x ∷ []) e a b d l h g is = absurd (omega (arith, l))
+  two_parts (x ∷ y ∷ []) e a b d l h g is = is ∙ ap (λ z. range_size n z (term_of y)) (g ∙ ap (both i64) h)
+  two_parts (x ∷ y ∷ z ∷ es) e a b d l h g is = absurd (omega (arith, l))
 
 pub other_three : (i64 : Bool) (n c : ℕ) (es : List Exp) → (length es ≡ 3 → ⊥) → Unknown n 0 ≡ stepping i64 n c (terms (map term_of es))
 unfolding terms

@@ -81,7 +81,7 @@ fn is_still_open(free: Free) -> bool
 
 /// The node at which a size name that no level has is refused.
 fn unmet_node(unmet: Unmet<'_>) -> Result<u32, NoMemory>
-    ensures { IfOk result (λ node. node ≡ unmet_at unmet) }
+    ensures { IfOk result (λ node. node ≡ unmet_at unmet.entry) }
 {
     match unmet {
         Unmet::At(node) => Ok(node),
@@ -91,7 +91,7 @@ fn unmet_node(unmet: Unmet<'_>) -> Result<u32, NoMemory>
 
 /// A size name that no level has is refused.
 fn refused(unmet: Unmet<'_>) -> Result<(), SizeErr>
-    ensures { Answers Done (Refuses (Escapes (unmet_at unmet))) result }
+    ensures { Answers Done (Refuses (Escapes (unmet_at unmet.entry))) result }
 {
     match unmet_node(unmet) {
         Ok(node) => Err(SizeErr::Refused(Refusal::Escapes(node))),
@@ -102,7 +102,7 @@ fn refused(unmet: Unmet<'_>) -> Result<(), SizeErr>
 /// Whether each size name took the size of a level.
 fn all_met(unmet: Unmet<'_>, sizes: &[BindId], found: &Found<'_>) -> Result<(), SizeErr>
     requires { Fall found.now.slots }
-    ensures { (σ : Finding) → Holds found.now σ → Answers Done (all_met (unmet_at unmet) 0 sizes.now σ) result }
+    ensures { (σ : Finding) → Holds found.now σ → Answers Done (all_met (unmet_at unmet.entry) 0 sizes.now σ) result }
 {
     for i in 0..sizes.len() {
         let number = match u32::try_from(i) {
@@ -148,7 +148,7 @@ fn take_met<'a>(
 ) -> Result<&'a NumberMap<'a>, SizeErr>
     requires is_table { IsTable program.now.names.table.now }
     requires holds { Held table.old }
-    ensures gives { (N : Names) (scope : Scope) → Knows program.now.names N → In_scope names.now (with_size_names sizes.now scope) → Holds table.old (counted (length sizes.now) nothing) → Answers (Taken_in table.new) (bound_at N sizes.now (unmet_at unmet) at (pattern_of pat.now) (size_of size.now) scope) result }
+    ensures gives { (N : Names) (scope : Scope) → Knows program.now.names N → In_scope names.now (with_size_names sizes.now scope) → Holds table.old (counted (length sizes.now) nothing) → Answers (Taken_in table.new) (bound_at N sizes.now (unmet_at unmet.entry) at (pattern_of pat.now) (size_of size.now) scope) result }
     ensures holds { IfOk result (λ made. Held table.new) }
 {
     match take(bump, program, sizes, at, pat, size, names, table) {
@@ -173,7 +173,7 @@ fn bind_in<'a>(
 ) -> Result<Bindings<'a>, SizeErr>
     requires is_table { IsTable program.now.names.table.now }
     requires holds { Held before.found }
-    ensures gives { (N : Names) (scope : Scope) → Knows program.now.names N → Bound_so before.entry (unbound sizes.now scope) → Answers Bound_so (bound_at N sizes.now (unmet_at unmet) at (pattern_of pat.now) (size_of size.now) scope) result }
+    ensures gives { (N : Names) (scope : Scope) → Knows program.now.names N → Bound_so before.entry (unbound sizes.now scope) → Answers Bound_so (bound_at N sizes.now (unmet_at unmet.entry) at (pattern_of pat.now) (size_of size.now) scope) result }
     ensures holds { IfOk result (λ made. Held made.found) }
 {
     let mut found = before.found;
@@ -209,7 +209,7 @@ pub fn bind_at<'a>(
     alloc: Global,
 ) -> Result<Bindings<'a>, SizeErr>
     requires is_table { IsTable program.now.names.table.now }
-    ensures gives { (N : Names) (scope : Scope) → Knows program.now.names N → In_scope names.now scope → Answers Bound_so (bound_at N sizes.now (unmet_at unmet) at (pattern_of pat.now) (size_of size.now) scope) result }
+    ensures gives { (N : Names) (scope : Scope) → Knows program.now.names N → In_scope names.now scope → Answers Bound_so (bound_at N sizes.now (unmet_at unmet.entry) at (pattern_of pat.now) (size_of size.now) scope) result }
     ensures holds { IfOk result (λ made. Held made.found) }
 {
     match unbound(sizes, names, bump, alloc) {
