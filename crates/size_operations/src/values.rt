@@ -58,13 +58,7 @@ fn fitting(free: Free) -> Option<Free>
     ensures { free_held result ≡ fitting (free_of free) }
 {
     match free {
-        Free::Const(value) => {
-            if fits_i64(value) {
-                Some(free)
-            } else {
-                None
-            }
-        }
+        Free::Const(value) => { if fits_i64(value) { Some(free) } else { None } }
         Free::Name(_) => Some(free),
         Free::Own(_, _) => Some(free),
         Free::Unknown(_, _) => Some(free),

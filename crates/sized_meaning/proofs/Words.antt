@@ -140,7 +140,9 @@ module _ (N : Names) (types : Sub) (τ : Meant) (W : World) (S : Sound N types W
   pub number_is : (m : Worth) (n i : ℕ) (e : FlatTerm) (at : ℕ) (v : FlatValue) → Size_number N types W e at → Part_word m e at v → Of m (s at) v → Is_scalar (sort.Int I64) v × (word v ≡ free m (value_of n i e))
   number_is m n i (Use (ref.Bound b) mark k) at v p w h = (is_i64 m at v p.0 h, w p.1 p.0)
   number_is m n i (Strict (Integer c t) mark no_term) at v p w h =
-      let z = is_i64 m at v p.0 h in
-      (z, literal_word N types τ W S one c (literal_type N types τ W S one t at) v w (typed_literal (literal_type N types τ W S one t at) c v w z) p.1
-          ∙ ap (λ b. free m (cond b (Const c) (Unknown n i))) (sym (lt-ltb c (2 ^ 63) p.1)))
+      let z = is_i64 m at v p.0 h in (
+        z,
+        literal_word N types τ W S one c (literal_type N types τ W S one t at) v w (typed_literal (literal_type N types τ W S one t at) c v w z) p.1
+            ∙ ap (λ b. free m (cond b (Const c) (Unknown n i))) (sym (lt-ltb c (2 ^ 63) p.1)),
+      )
   number_is m n i e at v p w h = absurd p
