@@ -1,6 +1,7 @@
 -- How deep data says that it is at most.
 use Rattle.std.proofs.Common.{◌≡◌, ℕ, zero, suc, ◌+◌, ◌-◌, ◌<◌, ◌≤◌, List, [], ◌∷◌, length, get_or, drop, refl, sym, ap, ◌∙◌, arith, add-one}
-use Rattle.std.specs.Prelude.{max}
+use Rattle.std.specs.Prelude.{max, cond, nat_eq}
+use Rattle.std.proofs.Math.Dec.{eqb-suc-zero}
 use Rattle.std.proofs.Math.Seq.{drop-cons}
 use Rattle.fut_scalar.specs.declared.scalar.Scalar.{Scalar}
 use Rattle.fut_scalar.specs.declared.scalar.ScalarType.{ScalarType}
@@ -9,7 +10,8 @@ use Rattle.array_data.specs.declared.form.Form.{Form}
 use Rattle.array_data.specs.declared.data.Data.{Data, fold-roll-Data}
 use Rattle.array_data.specs.declared.data.Data.TheOpen as open_data
 use Rattle.array_data.specs.declared.data.Data.TheVariants as hold
-use Rattle.array_data.specs.Depths.{depth_step, depth_told, row_depth_step, row_depth_told, deepest}
+use Rattle.array_data.specs.declared.built.Built.{Built}
+use Rattle.array_data.specs.Depths.{depth_step, depth_told, row_depth_step, row_depth_told, deepest, built_depth}
 use Rattle.array_data.proofs.Forms.{drop_past}
 
 module _ (d : Data) where
@@ -76,3 +78,28 @@ module _ (n : ℕ) (ds : List Data) where
   deepest_end m k i l h e = e ∙ ap (λ z. z + 1) (sym (h ∙ ap (deepest m) (drop_past ds i l)))
 
 pub ruleset deepest_rows = (deepest_start, deepest_more, deepest_end)
+
+-- ---- what is made says how deep it is
+
+pub tuple_made : (n : ℕ) (qs ps ds : List Data) → n ≡ deepest 0 qs + 1 → qs ≡ ps → depth_told (hold.Tuple n ds) ≡ deepest 0 ps + 1
+tuple_made n qs ps ds e q = sym (depth_tuple (hold.Tuple n ds) n ds refl) ∙ e ∙ ap (λ z. deepest 0 z + 1) q
+
+pub record_made : (n : ℕ) (fs : List Text) (qs ps ds : List Data) → n ≡ deepest 0 qs + 1 → qs ≡ ps → depth_told (hold.Record n fs ds) ≡ deepest 0 ps + 1
+record_made n fs qs ps ds e q = sym (depth_record (hold.Record n fs ds) n fs ds refl) ∙ e ∙ ap (λ z. deepest 0 z + 1) q
+
+pub ruleset depths_made = (tuple_made, record_made)
+
+module _ (n : ℕ) (b : Built) where
+  pub array_made : (h : Form) (ds : List Data) → length b.words ≡ 0 → depth_told (hold.Rows n h ds) ≡ built_depth n b
+  unfolding built_depth
+  array_made h ds e = sym (depth_rows (hold.Rows n h ds) n h ds refl) ∙ ap (λ z. cond (nat_eq z 0) n 1) (sym e)
+
+  words_deep : (l : ℕ) → (l ≡ 0 → ⊥) → 1 ≡ cond (nat_eq l 0) n 1
+  words_deep zero e = absurd (e refl)
+  words_deep (suc l) e = sym (ap (λ z. cond z n 1) (eqb-suc-zero l))
+
+  pub words_made : (t : ScalarType) (ws : List ℕ) → (length b.words ≡ 0 → ⊥) → depth_told (hold.Words t ws) ≡ built_depth n b
+  unfolding built_depth
+  words_made t ws e = sym (depth_words (hold.Words t ws) t ws refl) ∙ words_deep (length b.words) e
+
+pub ruleset rows_made = (array_made, words_made)

@@ -1,5 +1,5 @@
 -- What code holds, one level at a time.
-use Rattle.std.proofs.Common.{◌≡◌, ℕ, List, [], ◌∷◌, ◌++◌, length, map, refl, sym, ap, ◌∙◌, Ok, Err}
+use Rattle.std.proofs.Common.{◌≡◌, ℕ, arith, List, [], ◌∷◌, ◌++◌, length, map, refl, sym, ap, ◌∙◌, Ok, Err}
 use Rattle.std.specs.Prelude.{remove, slice_index_or}
 use Rattle.fut_scalar.specs.declared.scalar.Scalar.{Scalar}
 use Rattle.fut_scalar.specs.declared.scalar.ScalarType.{ScalarType}
@@ -64,4 +64,8 @@ pub first_of : (ds rest : List Data) (d e : Data) → (length ds ≡ 0 → ⊥) 
 first_of [] rest d e l q r = absurd (l refl)
 first_of (x ∷ ds) rest d e l q r = ap (λ z. z ∷ ds) (sym q) ∙ ap (λ z. d ∷ z) (sym r)
 
-pub ruleset parting = (first_of)
+pub none_of : (ds : List Data) → length ds ≡ 0 → ds ≡ []
+none_of [] l = refl
+none_of (d ∷ ds) l = absurd (omega arith)
+
+pub ruleset parting = (first_of, none_of)

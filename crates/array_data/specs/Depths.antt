@@ -1,5 +1,6 @@
 -- How deep data says that it is at most.
-use Rattle.std.specs.Prelude.{ℕ, ◌-◌, max, List, [], ◌∷◌}
+use Rattle.std.specs.Prelude.{ℕ, ◌-◌, max, cond, nat_eq, length, List, [], ◌∷◌}
+use Rattle.array_data.specs.declared.built.Built.{Built}
 use Rattle.array_data.specs.declared.data.Data.{Data, Data-F, fold-Data}
 
 unfoldable pub depth_step : Data-F ℕ → ℕ
@@ -27,3 +28,7 @@ row_depth_told = fold-Data ℕ row_depth_step
 unfoldable pub deepest : ℕ → List Data → ℕ
 deepest n [] = n
 deepest n (d ∷ ds) = deepest (max n (depth_told d)) ds
+
+-- how deep an array of rows that were put together says that it is, where its rows may make it so deep: words are 1 deep
+unfoldable pub built_depth : ℕ → Built → ℕ
+built_depth n b = cond (nat_eq (length b.words) 0) n 1

@@ -4,7 +4,7 @@ ghost use Rattle.fut_value.specs.Data.{Shape, Array_datum, datums};
 ghost use Rattle.fut_meaning.specs.Arrays.{all_like, array as array_made, array_of, row_shape};
 ghost use Rattle.array_data.specs.Answers.{Tells};
 ghost use Rattle.array_data.specs.Changes.{Stands_in};
-ghost use Rattle.array_data.specs.Depths.{deepest};
+ghost use Rattle.array_data.specs.Depths.{built_depth, deepest, depth_told};
 ghost use Rattle.array_data.specs.Held.{as_held, built_rows, held, held_all, scalars, shape_held};
 
 use crate::built::Built;
@@ -192,14 +192,15 @@ pub fn untested(
 }
 
 /// The same of rows that an array so deep may have. It takes no look at them.
-#[tactic(auto, using(crate::proofs::Making::untested_making))]
+#[tactic(auto, using(crate::proofs::Making::untested_making, crate::proofs::Depths::rows_made))]
 pub fn so_deep(
     alloc: Global,
     form: Shared<Form>,
     depth: u32,
     built: Built,
 ) -> Result<Data, NoMemory>
-    ensures { IfOk result (λ array. held array ≡ Array_datum (shape_held form) (datums (built_rows built))) }
+    ensures value { IfOk result (λ array. held array ≡ Array_datum (shape_held form) (datums (built_rows built))) }
+    ensures deep { IfOk result (λ array. depth_told array ≡ built_depth depth built) }
 {
     if depth > MOST_DEEP {
         return Err(NoMemory);

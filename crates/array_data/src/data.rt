@@ -1,5 +1,5 @@
 // Data, whose arrays, tuples and records are shared.
-ghost use Rattle.std.specs.Prelude.{◌≡◌, ◌∷◌, IfSome};
+ghost use Rattle.std.specs.Prelude.{◌≡◌, [], ◌∷◌, None, IfOk, IfSome};
 ghost use Rattle.array_data.specs.Answers.{Copied};
 
 use crate::form::Form;
@@ -24,7 +24,8 @@ pub enum Data {
 /// The same data, which shares all that is in it.
 #[tactic(auto, using(crate::proofs::Holding::copies))]
 pub fn copy(whole: &Data) -> Result<Data, Stop>
-    ensures { Copied whole.now result }
+    ensures value { Copied whole.now result }
+    ensures same { IfOk result (λ other. other ≡ whole.now) }
 {
     match whole {
         Data::Scalar(scalar) => Ok(Data::Scalar(*scalar)),
@@ -54,7 +55,8 @@ pub fn copy(whole: &Data) -> Result<Data, Stop>
 /// The first of some data, apart from the others.
 #[tactic(auto, using(crate::proofs::Holding::parting))]
 pub fn first_apart(all: List<Data>) -> Option<(Data, List<Data>)>
-    ensures { IfSome result (λ parts. all ≡ parts.0 ∷ parts.1) }
+    ensures parts { IfSome result (λ parts. all ≡ parts.0 ∷ parts.1) }
+    ensures none { result ≡ None → all ≡ [] }
 {
     let mut rest = all.into_vec();
     if rest.len() == 0 {

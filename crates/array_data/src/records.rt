@@ -1,10 +1,11 @@
 // Records of parts, their fields, and the parts of tuples by the names of their positions.
-ghost use Rattle.std.specs.Prelude.{◌≡◌, ◌<◌, IfOk, IfSome, length, slice_set, true};
+ghost use Rattle.std.specs.Prelude.{◌≡◌, ◌+◌, ◌<◌, IfOk, IfSome, length, slice_set, true};
 ghost use Rattle.std.specs.Str.{bytes_eq};
 ghost use Rattle.fut_flat.specs.Erased.{texts};
 ghost use Rattle.fut_value.specs.Data.{Record_datum, datums};
 ghost use Rattle.fut_meaning.specs.Accessors.{or_wrong};
 ghost use Rattle.fut_blocks.specs.Records.{datum_field, datum_part, datum_part_from, datum_parts, named_data};
+ghost use Rattle.array_data.specs.Depths.{deepest, depth_told};
 ghost use Rattle.array_data.specs.Held.{as_held, held, held_all, named_parts};
 ghost use Rattle.array_data.specs.Records.{All_put, Comes_to, Is_first, fields_of, replaced_of};
 
@@ -69,14 +70,15 @@ fn shared_names(names: &[&str], like: Option<&Data>) -> Option<Shared<List<Name>
 }
 
 /// A record of parts, with the names of its fields in their order. It shares the names of another record that has the same.
-#[tactic(auto, using(crate::proofs::Recording::recorded))]
+#[tactic(auto, using(crate::proofs::Recording::recorded, crate::proofs::Depths::depths_made))]
 pub fn record(
     alloc: Global,
     names: &[&str],
     parts: List<Data>,
     like: Option<&Data>,
 ) -> Result<Data, NoMemory>
-    ensures { IfOk result (λ whole. held whole ≡ Record_datum (named_data (texts names.now) (held_all parts))) }
+    ensures value { IfOk result (λ whole. held whole ≡ Record_datum (named_data (texts names.now) (held_all parts))) }
+    ensures deep { IfOk result (λ whole. depth_told whole ≡ deepest 0 parts + 1) }
 {
     if names.len() != parts.len() {
         return Err(NoMemory);
