@@ -1,11 +1,13 @@
 // The measure of a program.
-ghost use Rattle.std.specs.Prelude.{◌≡◌, ◌≤◌, ◌+◌, IfErr, IfOk, map, max, length};
+ghost use Rattle.std.specs.Prelude.{◌≡◌, ◌≤◌, ◌+◌, IfErr, IfOk, Option, map, max, length};
 ghost use Rattle.fut_flat.specs.Erased.{term_of};
 ghost use Rattle.fut_meaning.specs.Comes.{Program_lost};
 ghost use Rattle.fut_meaning.specs.Flats.{flat_tops, named_terms};
+ghost use Rattle.fut_meaning.specs.Found.{Sizing};
 ghost use Rattle.fut_meaning.specs.Knowns.{empty, known_as};
 ghost use Rattle.fut_meaning.specs.Measures.{Measures};
 ghost use Rattle.fut_meaning.specs.Walk.{Definition_visits};
+ghost use Rattle.told_rows.specs.Tables.{Told_by};
 ghost use Rattle.unfold_measure.specs.Held.{known_of, scope_of};
 ghost use Rattle.unfold_measure.specs.Program.{Definition_to, Definitions_to, Program_to};
 ghost use Rattle.unfold_reach.specs.Reach.{Reached, named_term};
@@ -21,6 +23,7 @@ use bumpalo::Bump;
 use fut_flat::{Definition, Flat};
 use fut_meaning::{MeasureErr, Measured};
 use fut_scalar::BindId;
+use told_rows::Sizes;
 use unfold_reach::{above, reached};
 
 /// What is known of the definitions that were walked, and their visits.
@@ -94,9 +97,8 @@ fn walk_definitions<'a>(
     flags: &[bool],
     definitions: &[Definition<'a>],
 ) -> Result<Made<'a>, Stop>
-    requires flags { Reached entry.0 definitions.now flags.now }
     requires length { length flags.now ≡ length definitions.now }
-    ensures walk { Definitions_to entry.0 (flat_tops 0 (map named_term definitions.now)) result }
+    ensures walk { (z : Option Sizing) → Reached z entry.0 definitions.now flags.now → Definitions_to z entry.0 (flat_tops 0 (map named_term definitions.now)) result }
     ensures few { IfOk result (λ r. r.nodes ≤ 1048576) }
     ensures flat { IfOk result (λ r. r.depth ≤ 1000) }
 {
@@ -126,10 +128,9 @@ fn walk_entry(
     entry: BindId,
     arguments: u32,
 ) -> Result<Measured, Stop>
-    requires made { Definition_visits entry.0 empty (flat_tops 0 (named_terms flat.now)) (scope_of tops.now.known.now) nodes depth }
     requires few { nodes ≤ 1048576 }
     requires flat { depth ≤ 1000 }
-    ensures { Program_to entry.0 arguments (flat_tops 0 (named_terms flat.now)) result }
+    ensures { (z : Option Sizing) → Definition_visits z entry.0 empty (flat_tops 0 (named_terms flat.now)) (scope_of tops.now.known.now) nodes depth → Program_to z entry.0 arguments (flat_tops 0 (named_terms flat.now)) result }
 {
     match find(tops.known, entry) {
         Some(known) => {
@@ -155,18 +156,20 @@ fn walk_entry(
     }
 }
 
-/// The measure of a program, or why its walk stops: `Lost` where it comes to what no typed program has.
+/// The measure of a program, or why its walk stops: `Lost` where it comes to what no typed program has. A definition that a
+/// size names is walked too, where a sizing is told.
 #[tactic(auto, using(crate::proofs::Definitions::programs))]
 pub fn measure_or_lost<'a>(
     bump: &'a Bump,
     flat: &Flat<'a>,
     entry: BindId,
     arguments: u32,
+    sizes: Option<&Sizes<'_>>,
 ) -> Result<Measured, Stop>
-    ensures { Program_to entry.0 arguments (flat_tops 0 (named_terms flat.now)) result }
+    ensures { (z : Option Sizing) → Told_by sizes.entry z → Program_to z entry.0 arguments (flat_tops 0 (named_terms flat.now)) result }
 {
     let count = above(flat.definitions);
-    let flags = match reached(bump, flat.definitions, count, entry) {
+    let flags = match reached(bump, flat.definitions, count, entry, sizes) {
         Ok(flags) => flags,
         Err(_) => return Err(Stop::Memory),
     };
@@ -182,7 +185,8 @@ pub fn measure_or_lost<'a>(
 }
 
 /// The measure of a program from an entry on, which takes so many arguments: the visits of the walk, and how many of them
-/// lie inside each other. What the walk needs of memory stays in the arena.
+/// lie inside each other. Where a sizing is told, definitions that sizes name are visited too. What the walk needs of memory
+/// stays in the arena.
 ///
 /// # Errors
 ///
@@ -195,11 +199,12 @@ pub fn measure<'a>(
     flat: &Flat<'a>,
     entry: BindId,
     arguments: u32,
+    sizes: Option<&Sizes<'_>>,
 ) -> Result<Measured, MeasureErr>
-    requires found { Program_lost entry.0 arguments (flat_tops 0 (named_terms flat.now)) → ⊥ }
-    ensures { Measures (flat_tops 0 (named_terms flat.now)) entry.0 arguments result }
+    requires found { (z : Option Sizing) × Told_by sizes z × (Program_lost z entry.0 arguments (flat_tops 0 (named_terms flat.now)) → ⊥) }
+    ensures { (z : Option Sizing) → Told_by sizes.entry z → Measures z (flat_tops 0 (named_terms flat.now)) entry.0 arguments result }
 {
-    match measure_or_lost(bump, flat, entry, arguments) {
+    match measure_or_lost(bump, flat, entry, arguments, sizes) {
         Ok(measured) => Ok(measured),
         Err(Stop::Nodes) => Err(MeasureErr::Nodes),
         Err(Stop::Depth) => Err(MeasureErr::Depth),

@@ -1,5 +1,5 @@
 use Rattle.std.proofs.Common.{◌≤◌}
-use Rattle.unfold_reach.proofs.Reaching.{Below_so_far}
+use Rattle.unfold_reach.proofs.Marking.{Below_so_far}
 use Rattle.unfold_reach.proofs.above.Given as goal
 
 abbrev pub invariant-loop-definition : goal.invariant-loop-definition

@@ -1,5 +1,5 @@
 use Rattle.unfold_reach.proofs.Reaching.{All_noted, Lets_noted}
-use Rattle.unfold_reach.proofs.+note.Given as goal
+use Rattle.unfold_reach.proofs.uses.+note.Given as goal
 
 abbrev pub invariant-note_all-loop-exp : goal.invariant-note_all-loop-exp
 invariant-note_all-loop-exp l = All_noted l.exps l.fn.named l.named l.exp-index

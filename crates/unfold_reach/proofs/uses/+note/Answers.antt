@@ -1,6 +1,6 @@
 use Rattle.std.proofs.Common.{arith}
 use Rattle.unfold_reach.proofs.Reaching.{note_use, note_strict, note_lambda, note_apply, note_lets, note_if, note_loop, turns_counted_noted, turns_over_noted, turns_while_noted, all_more, all_done, lets_more, lets_done}
-use Rattle.unfold_reach.proofs.+note.Goals as goal
+use Rattle.unfold_reach.proofs.uses.+note.Goals as goal
 
 pub note_all-loop-exp-preserved : goal.note_all-loop-exp-preserved
 note_all-loop-exp-preserved t c = all_more _ _ _ _ _ _ c.loop-exp-test.true c.loop-exp.invariant c.note.ensures
