@@ -82,7 +82,7 @@ module _ (N : Names) (types : Sub) (τ : Meant) (W : World) (S : Sound N types W
   abbrev pub Worth_of : ℕ → ℕ → Context → FlatEnv → Free → FlatValue → Type 0
   Worth_of lo i G env d v = (d ≡ Unknown lo i) ⊎ (((x : ℕ) × (d ≡ Name x) × (G.sizes x ≡ Some i64_size) × (flat_look W.tops env x ≡ Val v)) ⊎ ((c : ℕ) × (d ≡ Const c) × (word v ≡ c)))
 
-  pub literal_type : Option IntType → ℕ → IntType
+  unfoldable pub literal_type : Option IntType → ℕ → IntType
   literal_type None mid = W.integer_at mid
   literal_type (Some i) mid = i
 

@@ -141,6 +141,10 @@ pub number_there : (t : Size) → is_number t ≡ true → is_whole t ≡ true
 number_there (Built (head.Scalar (sort.Int i)) ts) e = refl
 number_there t e = absurd (let x : false ≡ true = e in cc)
 
+pub number_here : (t : Size) → is_whole t ≡ true → is_number t ≡ true
+number_here (Built (head.Scalar (sort.Int i)) ts) e = refl
+number_here t e = absurd (let x : false ≡ true = e in cc)
+
 module _ (N : Names) (τ : Meant) (W : World) (m : Worth) (φ : Frames) where
   -- a whole number is worth one
   pub number_value : (t : Size) (v : FlatValue) → Fits N τ W.sizing (calls W) m φ t v → is_whole t ≡ true → (z : ℤ) × (worth_of v ≡ Some z)
@@ -291,7 +295,7 @@ module _ (N : Names) (types : Sub) (τ : Meant) (W : World) where
 
   module _ (S : Sound N types W.sizing) (one : One_kind_each τ) (lo hi : ℕ) (m : Worth) where
     -- what is found is right and made before; type variables stand for what is found
-    abbrev Right_before : Found → Type 0
+    abbrev pub Right_before : Found → Type 0
     Right_before V = ((d : Free) (n : ℤ) → V.size d ≡ Some n → (count_of n ≡ free m d) × Out_of lo hi d) × ((v : Variable) (h : Shape) → V.type v ≡ Some h → (τ v).shape h)
 
     pub data_right : (j : ℕ) (φ : Frames) (t : Size) (h : Shape) (V : Found) → Each (Scoped (Out_of lo hi)) j t → Reads N τ m φ t h → Right_before V → Right_before (with_data W.sizing.fields t h V)
@@ -380,7 +384,7 @@ module _ (N : Names) (types : Sub) (τ : Meant) (W : World) where
         told_or_not false = e
 
     -- a name that has its home at the node is worth the value, where that is a number
-    abbrev Named_here : ℕ → FlatValue → Type 0
+    abbrev pub Named_here : ℕ → FlatValue → Type 0
     Named_here q v = (b : ℕ) (z : ℤ) → W.sizing.home b ≡ q → is_whole (s q) ≡ true → worth_of v ≡ Some z → (count_of z ≡ m (Name b)) × Out_of lo hi (Name b)
 
     worth_right : (q : ℕ) (v : FlatValue) (V : Found) → Named_here q v → Right_before V → Right_before (with_worth W.sizing.home q (s q) (worth_of v) V)
@@ -407,28 +411,25 @@ module _ (N : Names) (types : Sub) (τ : Meant) (W : World) where
         tested true false i k = absurd (let z : false ≡ true = k in cc)
         tested false y i k = absurd (let z : false ≡ true = i in cc)
 
-    pub env_entered : (q : ℕ) (G : Context) (env : FlatEnv) (v : FlatValue) → Env_fits N types τ W lo hi m G env → Of m (s q) v → Apart lo hi (s q) → Named_here q v → Env_fits N types τ W lo hi m (with_entered (s q) G) (entered q v env)
-    unfolding flat_look found
-    env_entered q G env v E h a named =
-        let formed = S.formed q in
-        let reads = fits_read N τ W.sizing (calls W) m no_frames (s q) v h in
-        let right = worth_right q v _ named (data_right 0 no_frames (s q) (value_shape v) _ a reads (results_right (s q) v (found W.sizing env) formed a h (E.sizes_right, E.types_right))) in record {
-          values = E.values;
-          away = E.away;
-          general = E.general;
-          general_worth = E.general_worth;
-          fresh = E.fresh;
-          sizes_right = right.0;
-          types_right = right.1;
-          finds = λ d e. name_first d (size_found d (either (stands (s q) d) (stands_told (s q) d || G.finds d) e));
-          finds_types = λ b e. type_found b (either (has_hole (s q) b) (has_told (s q) b || G.finds_types b) e);
-        }
+    -- what was found stays right where a value of its node's type is entered
+    pub entered_right : (q : ℕ) (env : FlatEnv) (v : FlatValue) → Right_before (found W.sizing env) → Of m (s q) v → Apart lo hi (s q) → Named_here q v → Right_before (found W.sizing (entered q v env))
+    unfolding found
+    entered_right q env v r h a named =
+        worth_right q v _ named (data_right 0 no_frames (s q) (value_shape v) _ a (fits_read N τ W.sizing (calls W) m no_frames (s q) v h) (results_right (s q) v (found W.sizing env) (S.formed q) a h r))
+
+    -- what a value of its node's type shows and tells, above what was found
+    abbrev Shown : ℕ → FlatEnv → FlatValue → Found
+    Shown q env v = with_data W.sizing.fields (s q) (value_shape v) (with_results W.sizing.fields (s q) (tells W.sizing v) (found W.sizing env))
+
+    -- and is found, as is what stands in that type
+    pub size_entered : (q : ℕ) (env : FlatEnv) (v : FlatValue) (d : Free) → Of m (s q) v → (stands (s q) d ≡ true) ⊎ ((stands_told (s q) d ≡ true) ⊎ ((n : ℤ) × ((found W.sizing env).size d ≡ Some n))) → (n : ℤ) × ((found W.sizing (entered q v env)).size d ≡ Some n)
+    unfolding found
+    size_entered q env v d h k = name_first d (size_found k)
       where
-        name_first : (d : Free) → (n : ℤ) × ((with_data W.sizing.fields (s q) (value_shape v) (with_results W.sizing.fields (s q) (tells W.sizing v) (found W.sizing env))).size d ≡ Some n)
-            → (n : ℤ) × (named_worth W.sizing.home q (s q) (worth_of v) d ((with_data W.sizing.fields (s q) (value_shape v) (with_results W.sizing.fields (s q) (tells W.sizing v) (found W.sizing env))).size d) ≡ Some n)
+        name_first : (d : Free) → (n : ℤ) × ((Shown q env v).size d ≡ Some n) → (n : ℤ) × (named_worth W.sizing.home q (s q) (worth_of v) d ((Shown q env v).size d) ≡ Some n)
         name_first (Name b) r = tested (nat_eq (W.sizing.home b) q) (is_whole (s q)) refl
           where
-            tested : (x y : Bool) → is_whole (s q) ≡ y → (n : ℤ) × (cond (x && y) (worth_of v) ((with_data W.sizing.fields (s q) (value_shape v) (with_results W.sizing.fields (s q) (tells W.sizing v) (found W.sizing env))).size (Name b)) ≡ Some n)
+            tested : (x y : Bool) → is_whole (s q) ≡ y → (n : ℤ) × (cond (x && y) (worth_of v) ((Shown q env v).size (Name b)) ≡ Some n)
             tested true true e = number_value N τ W m no_frames (s q) v h e
             tested true false e = r
             tested false y e = r
@@ -437,9 +438,28 @@ module _ (N : Names) (types : Sub) (τ : Meant) (W : World) where
         name_first (Unknown k i) r = r
         name_first (Slot i) r = r
 
-        size_found : (d : Free) → (stands (s q) d ≡ true) ⊎ (stands_told (s q) d || G.finds d ≡ true) → (n : ℤ) × ((with_data W.sizing.fields (s q) (value_shape v) (with_results W.sizing.fields (s q) (tells W.sizing v) (found W.sizing env))).size d ≡ Some n)
-        size_found d (inl e) = some_place (size_place W.sizing.fields (At d) (s q)) (λ p. pos (size_of (at_path p (value_shape v)))) _ (size_placed W.sizing.fields d (s q) (S.formed q) e)
-        size_found d (inr e) = some_else (size_place W.sizing.fields (At d) (s q)) (λ p. pos (size_of (at_path p (value_shape v)))) _ (told_found (s q) v (found W.sizing env) d (S.formed q) h (by_told (either (stands_told (s q) d) (G.finds d) e)))
+        size_found : (stands (s q) d ≡ true) ⊎ ((stands_told (s q) d ≡ true) ⊎ ((n : ℤ) × ((found W.sizing env).size d ≡ Some n))) → (n : ℤ) × ((Shown q env v).size d ≡ Some n)
+        size_found (inl e) = some_place (size_place W.sizing.fields (At d) (s q)) (λ p. pos (size_of (at_path p (value_shape v)))) _ (size_placed W.sizing.fields d (s q) (S.formed q) e)
+        size_found (inr e) = some_else (size_place W.sizing.fields (At d) (s q)) (λ p. pos (size_of (at_path p (value_shape v)))) _ (told_found (s q) v (found W.sizing env) d (S.formed q) h e)
+
+    pub env_entered : (q : ℕ) (G : Context) (env : FlatEnv) (v : FlatValue) → Env_fits N types τ W lo hi m G env → Of m (s q) v → Apart lo hi (s q) → Named_here q v → Env_fits N types τ W lo hi m (with_entered (s q) G) (entered q v env)
+    unfolding flat_look found
+    env_entered q G env v E h a named =
+        let right = entered_right q env v (E.sizes_right, E.types_right) h a named in record {
+          values = E.values;
+          away = E.away;
+          general = E.general;
+          general_worth = E.general_worth;
+          fresh = E.fresh;
+          sizes_right = right.0;
+          types_right = right.1;
+          finds = λ d e. size_entered q env v d h (size_known d (either (stands (s q) d) (stands_told (s q) d || G.finds d) e));
+          finds_types = λ b e. type_found b (either (has_hole (s q) b) (has_told (s q) b || G.finds_types b) e);
+        }
+      where
+        size_known : (d : Free) → (stands (s q) d ≡ true) ⊎ (stands_told (s q) d || G.finds d ≡ true) → (stands (s q) d ≡ true) ⊎ ((stands_told (s q) d ≡ true) ⊎ ((n : ℤ) × ((found W.sizing env).size d ≡ Some n)))
+        size_known d (inl e) = inl e
+        size_known d (inr e) = inr (by_told (either (stands_told (s q) d) (G.finds d) e))
           where
             by_told : (stands_told (s q) d ≡ true) ⊎ (G.finds d ≡ true) → (stands_told (s q) d ≡ true) ⊎ ((n : ℤ) × ((found W.sizing env).size d ≡ Some n))
             by_told (inl e) = inl e

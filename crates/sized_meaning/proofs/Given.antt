@@ -34,5 +34,5 @@ module _ (N : Names) (τ : Meant) (W : World) (m : Worth) where
 
 pub programs_give_their_shapes : ProgramsGiveTheirShapes
 programs_give_their_shapes N types τ W ds entry arguments S one sized simple fit gives_data =
-    gives_as _ _ _ (programs_have_their_sizes N types τ W ds entry arguments S one sized simple (λ tops m. data_fit N (exactly τ) (at_tops W tops) m no_frames (W.sizing.size_at (W.sizing.home entry.0)) arguments (fit m)))
-    (λ w x. (x.1, result_shaped N (exactly τ) (at_tops W x.0) x.1 no_frames (W.sizing.size_at (W.sizing.home entry.0)) arguments (fit x.1) w gives_data x.2))
+    gives_as _ _ _ (programs_have_their_sizes N types τ W ds entry arguments S one sized simple (λ tops m are. data_fit N (exactly τ) (at_tops W tops) m no_frames (W.sizing.size_at (W.sizing.home entry.0)) arguments (fit tops m are)))
+    (λ w x. (x.0, x.1, x.2, result_shaped N (exactly τ) (at_tops W x.0) x.1 no_frames (W.sizing.size_at (W.sizing.home entry.0)) arguments (fit x.0 x.1 x.2) w gives_data x.3))

@@ -38,8 +38,13 @@ pub mod Law
 pub mod More_tops
 pub mod Programs
 pub mod Given
+pub mod Misfits
+pub mod Primitive_misfits
+pub mod Reporting
+pub mod Size_reports
 mod Examples
 mod Program_example
+mod Number_example
 mod Recording
 mod Triples
 mod Scattering

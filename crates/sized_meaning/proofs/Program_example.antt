@@ -27,8 +27,9 @@ use Rattle.sized_meaning.specs.Shapes.{exactly, Has_shape, Has_datum}
 use Rattle.sized_meaning.specs.Finding.{One_shape_each, Well_formed}
 use Rattle.sized_meaning.specs.Fits.{Gives, word}
 use Rattle.sized_meaning.specs.Law.{Sound, World, told}
-use Rattle.sized_meaning.specs.Programs.{as_defined, Plain_definitions, Data_arguments, Result_shaped, Gives_data}
+use Rattle.sized_meaning.specs.Programs.{as_defined, Program_finds, Plain_definitions, Data_arguments, Result_shaped, Gives_data}
 use Rattle.sized_meaning.proofs.Ways.{gives_as}
+use Rattle.sized_meaning.proofs.Programs.{sized_programs_find}
 use Rattle.sized_meaning.proofs.Given.{programs_give_their_shapes}
 
 here : Place
@@ -69,6 +70,9 @@ module _ (N : Names) (named : AreNames N) (τ : Variable → Shape) (one : One_s
   unfolding Each Each_all
   sized = (used, record { type = refl; bound = λ c e. (omega arith, omega arith); away = (tt, (omega arith, tt)) }, tt)
 
+  finds : Program_finds N types world.sizing.size_at world.sizing.home (definition ∷ [])
+  finds = sized_programs_find N types world.sizing.size_at world.sizing.home (definition ∷ []) sized
+
   simple : Plain_definitions N types world (definition ∷ []) 0
   unfolding Each_hole Each_holes
   simple = ((tt, tt), tt, tt)
@@ -90,4 +94,4 @@ module _ (N : Names) (named : AreNames N) (τ : Variable → Shape) (one : One_s
   five_rows m Unmet_shape x = absurd x.2
 
   iota_gives_five_rows : Gives (λ w. value_shape w ≡ Array_shape 5 (Scalar_shape (sort.Int int.I64))) (Flat_means (told world) (plain false) 0 (definition ∷ []) main (five ∷ []))
-  iota_gives_five_rows = gives_as _ (λ w. value_shape w ≡ Array_shape 5 (Scalar_shape (sort.Int int.I64))) _ (programs_give_their_shapes N types τ world (definition ∷ []) main (five ∷ []) sound one sized simple arguments gives_data) (λ w x. five_rows x.0 (value_shape w) x.1)
+  iota_gives_five_rows = gives_as _ (λ w. value_shape w ≡ Array_shape 5 (Scalar_shape (sort.Int int.I64))) _ (programs_give_their_shapes N types τ world (definition ∷ []) main (five ∷ []) sound one finds simple (λ tops m are. arguments m) gives_data) (λ w x. five_rows x.1 (value_shape w) x.3)

@@ -73,7 +73,7 @@ pub every_both : {A : Type 0} (P : A → Type 0) (xs ys : List A) → Every P xs
 every_both P [] ys e f = f
 every_both P (x ∷ xs) ys e f = (e.0, every_both P xs ys e.1 f)
 
-every_prefix : (P : Datum → Type 0) (front ds : List Datum) → Every P front → Every P ds → Every (Every P) (prefixes_on front ds)
+pub every_prefix : (P : Datum → Type 0) (front ds : List Datum) → Every P front → Every P ds → Every (Every P) (prefixes_on front ds)
 every_prefix P front [] e f = tt
 every_prefix P front (d ∷ ds) e f = let z = every_both P front (d ∷ []) e (f.0, tt) in (z, every_prefix P (front ++ d ∷ []) ds z f.1)
 

@@ -65,7 +65,7 @@ pub every_place : (P : Datum → Type 0) (with : Datum → List Datum → List D
 every_place P with go k [] ws e f = (tt, refl)
 every_place P with go k (v ∷ vs) ws e f = let r = every_place P with go (suc k) vs ws e.1 f in ((go v (written_at k ws) e.0 (every_written P k ws f), r.0), ap suc r.1)
 
-every_writes : (P : Datum → Type 0) (n : ℕ) (zs : List ℤ) (vs : List Datum) → Every P vs → Every (λ w. P w.1) (writes n zs vs)
+pub every_writes : (P : Datum → Type 0) (n : ℕ) (zs : List ℤ) (vs : List Datum) → Every P vs → Every (λ w. P w.1) (writes n zs vs)
 every_writes P n [] vs e = tt
 every_writes P n (z ∷ zs) [] e = tt
 every_writes P n (z ∷ zs) (v ∷ vs) e = at_index z (every_writes P n zs vs e.1)

@@ -7,3 +7,5 @@ pub mod Programs
 pub mod Finding
 pub mod Typed
 pub mod Entered
+pub mod Misfits
+pub mod Reports

@@ -3,7 +3,9 @@ ghost use Rattle.sized_meaning.specs.Claims.{SuitingValuesFit};
 ghost use Rattle.sized_meaning.specs.Entered.{CoercedHasItsSizes, FoundUnderNamesIsRight, LiteralRowsAreRight, ValuesRead};
 ghost use Rattle.sized_meaning.specs.Finding.{FoundIsRight, StandingIsFound, ToldIsRight};
 ghost use Rattle.sized_meaning.specs.Law.{ValuesHaveTheirSizes};
-ghost use Rattle.sized_meaning.specs.Programs.{ProgramsGiveTheirShapes, ProgramsHaveTheirSizes};
+ghost use Rattle.sized_meaning.specs.Misfits.{DataIsOfItsShape, NoOperationMisfits, NoPrimitiveMisfits};
+ghost use Rattle.sized_meaning.specs.Reports.{OtherSizesMisfit, SizesAreReportedThere};
+ghost use Rattle.sized_meaning.specs.Programs.{DefinitionsAreEntered, ProgramsGiveTheirShapes, ProgramsHaveTheirSizes, SizedProgramsFind};
 
 /// Where a sized type suits another, each value of the one is of the other.
 #[tactic(auto, using(crate::proofs::Suiting::suiting_values_fit))]
@@ -21,7 +23,8 @@ pub fn values_have_their_sizes()
 {}
 
 /// On arguments of its entry's sized type each value that a program gives is of the sized type of its results, with the sizes that
-/// these arguments have, where its definitions have one type each and are made of such terms.
+/// these arguments have, where its definitions have one type each and are made of such terms. The name of a definition that is a
+/// number is a size of that value, which other definitions find as the program runs: what is coerced to it has it.
 #[tactic(auto, using(crate::proofs::Programs::programs_have_their_sizes))]
 pub fn programs_have_their_sizes()
     ensures { ProgramsHaveTheirSizes }
@@ -31,6 +34,18 @@ pub fn programs_have_their_sizes()
 #[tactic(auto, using(crate::proofs::Given::programs_give_their_shapes))]
 pub fn programs_give_their_shapes()
     ensures { ProgramsGiveTheirShapes }
+{}
+
+/// Each program that is sized by the rules of `fut_sizes` is one of these: there a definition finds no numbers of others.
+#[tactic(auto, using(crate::proofs::Programs::sized_programs_find))]
+pub fn sized_programs_find()
+    ensures { SizedProgramsFind }
+{}
+
+/// Each definition begins with the data of those before it, entered right: what is found there of sizes is what they are worth.
+#[tactic(auto)]
+pub fn definitions_are_entered()
+    ensures { DefinitionsAreEntered }
 {}
 
 /// At the place of a size in a sized type the shape of a value says what the size is worth there, and at that of a type variable
@@ -76,4 +91,36 @@ pub fn literal_rows_are_right()
 #[tactic(auto, using(crate::proofs::Entered::coerced_has_its_sizes))]
 pub fn coerced_has_its_sizes()
     ensures { CoercedHasItsSizes }
+{}
+
+/// Each operation on arrays does the same for elements of one shape, and for what updates an array, whether a misfit of sizes is
+/// reported or goes wrong: so none is.
+#[tactic(auto, using(crate::proofs::Misfits::no_operation_misfits))]
+pub fn no_operation_misfits()
+    ensures { NoOperationMisfits }
+{}
+
+/// Data of a sized type without records is whole and of the shape that is told of the type.
+#[tactic(auto)]
+pub fn data_is_of_its_shape()
+    ensures { DataIsOfItsShape }
+{}
+
+/// Each primitive does the same for data of the shapes that it takes, where its function gives data of its shape, whether a misfit of
+/// sizes is reported or goes wrong: so none is.
+#[tactic(auto, using(crate::proofs::Primitive_misfits::no_primitive_misfits))]
+pub fn no_primitive_misfits()
+    ensures { NoPrimitiveMisfits }
+{}
+
+/// Where all else that does not fit goes wrong, a program reports sizes at its `:>` and `unflatten` alone.
+#[tactic(auto, using(crate::proofs::Size_reports::sizes_are_reported_there))]
+pub fn sizes_are_reported_there()
+    ensures { SizesAreReportedThere }
+{}
+
+/// So a report of a size from elsewhere tells that something does not fit: the program may go wrong there.
+#[tactic(auto, using(crate::proofs::Size_reports::other_sizes_misfit))]
+pub fn other_sizes_misfit()
+    ensures { OtherSizesMisfit }
 {}

@@ -10,7 +10,13 @@
 //! name sizes. Of other terms nothing is claimed there: general names of several types, a name of a size as the argument of a
 //! function or as the end of a range or slice, and `map2` to `map5` whose results hold arrays. `specs/Programs.antt` says the same
 //! of programs: what an entry gives for arguments of its sized type is of the sized type of its results, with the sizes of these
-//! arguments, and where these are data it has that shape.
+//! arguments and of the definitions that are numbers, and where these are data it has that shape. A definition that is a number is
+//! found as a size by those behind it that name it in the sized types of their nodes.
+//!
+//! `specs/Misfits.antt`: on data of the shapes that primitives and operations take no test of sizes misfits. `specs/Reports.antt`:
+//! where what does not fit goes wrong, sizes are reported by `:>` and `unflatten` alone; so each other report of a size tells that
+//! something does not fit. What is left between the two is that the values of a sized term are of one shape each, where records
+//! are in them too.
 //!
 //! The other laws are on what the meaning finds of sizes that no value shows. `specs/Finding.antt`: at their places in a sized
 //! type. `specs/Entered.antt`: under names, where what was entered is right; so an array literal without elements has
@@ -20,7 +26,9 @@
 mod laws;
 
 pub use laws::{
-    coerced_has_its_sizes, found_is_right, found_under_names_is_right, literal_rows_are_right,
-    programs_give_their_shapes, programs_have_their_sizes, standing_is_found, suiting_values_fit,
-    told_is_right, values_have_their_sizes, values_read,
+    coerced_has_its_sizes, data_is_of_its_shape, definitions_are_entered, found_is_right,
+    found_under_names_is_right, literal_rows_are_right, no_operation_misfits, no_primitive_misfits,
+    other_sizes_misfit, programs_give_their_shapes, programs_have_their_sizes, sized_programs_find,
+    sizes_are_reported_there, standing_is_found, suiting_values_fit, told_is_right,
+    values_have_their_sizes, values_read,
 };

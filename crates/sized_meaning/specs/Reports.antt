@@ -1,0 +1,94 @@
+-- Where all else that does not fit goes wrong, sizes are reported by `:>` and `unflatten` alone. So where nothing goes wrong
+-- then, no other report of sizes is allowed where what does not fit is reported.
+use Rattle.std.specs.Prelude.{◌≡◌, ◌⊎◌, ℕ, Bool, true, List, [], ◌∷◌}
+use Rattle.fut_scalar.specs.declared.place.BindId.{BindId}
+use Rattle.fut_scalar.specs.declared.place.Place.{Place}
+use Rattle.fut_scalar.specs.declared.report.FailKind.TheVariants as kind
+use Rattle.fut_scalar.specs.declared.report.Report.{Report}
+use Rattle.fut_flat.specs.declared.prim.Primitive.{Primitive}
+use Rattle.fut_flat.specs.declared.prim.Primitive.TheVariants as prim
+use Rattle.fut_flat.specs.declared.prim.Ref.{Ref}
+use Rattle.fut_flat.specs.declared.prim.Ref.TheVariants as ref
+use Rattle.fut_flat.specs.Erased.{FlatTerm, FlatTurns}
+use Rattle.fut_flat.specs.Terms.{Operation, Coerce, Use, Strict, Lambda, Apply, Let, If, Loop, Terms, no_term, term_and, Counted, Over, While}
+use Rattle.fut_meaning.specs.Flats.{FlatValue, FlatEnv, Named_term, Flat_means}
+use Rattle.fut_meaning.specs.Found.{Told}
+use Rattle.fut_meaning.specs.Meaning.{plain, unrestricted}
+use Rattle.fut_meaning.specs.Outcomes.{Fail, Wrong}
+use Rattle.fut_meaning.specs.Values.{Scalar_value, Tuple_value, Record_value, Array_value, Closure, Primitive_value, no_value, value_and, no_field, field_and, base, bind, entered}
+use Rattle.sized_meaning.specs.Fits.{FlatValues, FlatFields}
+
+-- each `:>` and each `unflatten` stands at one of these places
+module _ (is_there : Place → Bool) where
+  abbrev pub Primitive_there : Primitive → Place → Type 0
+  Primitive_there prim.Unflatten at = is_there at ≡ true
+  Primitive_there p at = Unit {0}
+
+  abbrev pub Use_there : Ref → Place → Type 0
+  Use_there (ref.Prim p) at = Primitive_there p at
+  Use_there r at = Unit {0}
+
+  abbrev pub Operation_there : Operation Ref BindId → Place → Type 0
+  Operation_there (Coerce e) at = is_there at ≡ true
+  Operation_there o at = Unit {0}
+
+  unfoldable mutual
+    pub Term_there : FlatTerm → Type 0
+    Term_there (Use r at k) = Use_there r at
+    Term_there (Strict o mark ts) = Operation_there o mark × Terms_there ts
+    Term_there (Lambda ps e) = Term_there e
+    Term_there (Apply f e) = Term_there f × Term_there e
+    Term_there (Let b v e) = Term_there v × Term_there e
+    Term_there (If c a b) = Term_there c × Term_there a × Term_there b
+    Term_there (Loop mark sizes p first turns body) = Term_there first × Turns_there turns × Term_there body
+
+    pub Terms_there : Terms Ref BindId → Type 0
+    Terms_there no_term = Unit {0}
+    Terms_there (term_and t ts) = Term_there t × Terms_there ts
+
+    pub Turns_there : FlatTurns → Type 0
+    Turns_there (Counted i n) = Term_there n
+    Turns_there (Over p e) = Term_there e
+    Turns_there (While c) = Term_there c
+
+  -- in the functions that values are and hold
+  unfoldable mutual
+    pub Value_there : FlatValue → Type 0
+    Value_there (Scalar_value s) = Unit {0}
+    Value_there (Tuple_value vs) = Values_there vs
+    Value_there (Record_value fs) = Fields_there fs
+    Value_there (Array_value row ds) = Unit {0}
+    Value_there (Closure ps e lo env) = Term_there e × Env_there env
+    Value_there (Primitive_value p at vs) = Primitive_there p at × Values_there vs
+
+    pub Values_there : FlatValues → Type 0
+    Values_there no_value = Unit {0}
+    Values_there (value_and v vs) = Value_there v × Values_there vs
+
+    pub Fields_there : FlatFields → Type 0
+    Fields_there no_field = Unit {0}
+    Fields_there (field_and f v fs) = Value_there v × Fields_there fs
+
+    pub Env_there : FlatEnv → Type 0
+    Env_there (base u) = Unit {0}
+    Env_there (bind b v env) = Value_there v × Env_there env
+    Env_there (entered q v env) = Value_there v × Env_there env
+
+  abbrev pub Definitions_there : List Named_term → Type 0
+  Definitions_there [] = Unit {0}
+  Definitions_there (d ∷ ds) = Term_there d.1 × Definitions_there ds
+
+  abbrev pub Arguments_there : List FlatValue → Type 0
+  Arguments_there [] = Unit {0}
+  Arguments_there (v ∷ vs) = Value_there v × Arguments_there vs
+
+-- what reports a size where what does not fit goes wrong
+abbrev pub SizesAreReportedThere : Type 0
+SizesAreReportedThere = (told : Told) (tight : Bool) (budget : ℕ) (ds : List Named_term) (entry : BindId) (arguments : List FlatValue) (is_there : Place → Bool) → Definitions_there is_there ds → Arguments_there is_there arguments
+    → (r : Report) (words : ℕ) → Flat_means told (unrestricted tight true) budget ds entry arguments (Fail r) words → r.kind ≡ kind.Size → is_there r.place ≡ true
+
+-- a report of a size from elsewhere tells that something does not fit
+abbrev pub OtherSizesMisfit : Type 0
+OtherSizesMisfit = (told : Told) (tight : Bool) (budget : ℕ) (ds : List Named_term) (entry : BindId) (arguments : List FlatValue) (is_there : Place → Bool) → Definitions_there is_there ds → Arguments_there is_there arguments
+    → (r : Report) (words : ℕ) → Flat_means told (plain tight) budget ds entry arguments (Fail r) words → r.kind ≡ kind.Size
+    → (is_there r.place ≡ true) ⊎ ((made : ℕ) × Flat_means told (unrestricted tight true) budget ds entry arguments Wrong made)
