@@ -42,6 +42,7 @@ pub mod Misfits
 pub mod Primitive_misfits
 pub mod Reporting
 pub mod Size_reports
+pub mod Plain_reports
 mod Examples
 mod Program_example
 mod Number_example

@@ -46,22 +46,22 @@ use Rattle.sized_meaning.proofs.Reporting.{There, Out_there, Fine, out_then, fin
 module _ (is_there : Place → Bool) where
   -- ---- ways to put parts together
 
-  abbrev Blames : {A : Type 0} → (A → Type 0) → Rel A → Type 0
+  abbrev pub Blames : {A : Type 0} → (A → Type 0) → Rel A → Type 0
   Blames {A} P m = (o : Out A) (f : ℕ) → m o f → Out_there is_there P o
 
-  abbrev Blameless : {A : Type 0} → Rel A → Type 0
+  abbrev pub Blameless : {A : Type 0} → Rel A → Type 0
   Blameless m = Blames (λ a. Unit {0}) m
 
-  blames_exact : {A : Type 0} (P : A → Type 0) (n : ℕ) (o : Out A) → Out_there is_there P o → Blames P (Exactly n o)
+  pub blames_exact : {A : Type 0} (P : A → Type 0) (n : ℕ) (o : Out A) → Out_there is_there P o → Blames P (Exactly n o)
   blames_exact P n o h _ _ exact = h
 
   module _ {A B : Type 0} (P : A → Type 0) (Q : B → Type 0) (m : Rel A) (k : A → Rel B) (h : Blames P m) (l : (a : A) → P a → Blames Q (k a)) where
-    blames_then : Blames Q (Then m k)
+    pub blames_then : Blames Q (Then m k)
     blames_then _ _ (goes_on {a} {o} {f} {g} x y) = l a (h (Val a) f x) o g y
     blames_then _ _ (stops {r} {f} x) = h (Fail r) f x
     blames_then _ _ (sticks {f} x) = tt
 
-  after : {A B : Type 0} (P : A → Type 0) (Q : B → Type 0) (o : Out A) (k : A → Rel B) → Out_there is_there P o → ((a : A) → P a → Blames Q (k a)) → Blames Q (Then (the o) k)
+  pub after : {A B : Type 0} (P : A → Type 0) (Q : B → Type 0) (o : Out A) (k : A → Rel B) → Out_there is_there P o → ((a : A) → P a → Blames Q (k a)) → Blames Q (Then (the o) k)
   after P Q o k h l = blames_then P Q (the o) k (blames_exact P 0 o h) l
 
   module _ {A B C : Type 0} (P : A → Type 0) (Q : B → Type 0) (R : C → Type 0) (m : Rel A) (n : Rel B) (k : A → B → Rel C) (h : Blames P m) (i : Blames Q n) (l : (a : A) (b : B) → P a → Q b → Blames R (k a b)) where
@@ -118,7 +118,7 @@ module _ (is_there : Place → Bool) where
     blames_finished : (k : List Datum → Out CountedDatum) → ((ds : List Datum) → Fine is_there (k ds)) → (ds : List Datum) → Blameless (finished k ds)
     blames_finished k h ds = after _ _ (k ds) _ (h ds) (λ r u. blames_exact _ r.0 (Val r.1) tt)
 
-    blames_job : (j : Job) → Job_there is_there j → Blameless (job_means tight Asked Writes f j)
+    pub blames_job : (j : Job) → Job_there is_there j → Blameless (job_means tight Asked Writes f j)
     blames_job (Done r) h = blames_exact _ r.0 (Val r.1) tt
     blames_job (Apply_each rows k) h = blames_then _ _ (each_of f rows) (finished k) (blames_each (λ a. Unit {0}) (λ a. Unit {0}) f (λ a u. go a) rows (every_any rows)) (λ ys u. blames_finished k h ys)
     blames_job (Reduce_each any ne lists k) h = blames_then _ _ (all_of (Reduces tight any (Asked any) f ne) lists) (finished k) (blames_all (Reduces tight any (Asked any) f ne) (λ xs. blames_reduced any ne xs) lists) (λ ys u. blames_finished k h ys)
@@ -132,7 +132,7 @@ module _ (is_there : Place → Bool) where
   mutual
     unfolding Value_there Values_there Fields_there
 
-    data_there : (d : Datum) → Value_there is_there (as_value d)
+    pub data_there : (d : Datum) → Value_there is_there (as_value d)
     data_there (Scalar_datum s) = tt
     data_there (Tuple_datum ds) = all_data_there ds
     data_there (Record_datum fs) = named_data_there fs

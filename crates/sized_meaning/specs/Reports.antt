@@ -1,6 +1,6 @@
 -- Where all else that does not fit goes wrong, sizes are reported by `:>` and `unflatten` alone. So where nothing goes wrong
 -- then, no other report of sizes is allowed where what does not fit is reported.
-use Rattle.std.specs.Prelude.{◌≡◌, ◌⊎◌, ℕ, Bool, true, List, [], ◌∷◌}
+use Rattle.std.specs.Prelude.{◌≡◌, ◌⊎◌, ℕ, Bool, true, false, List, [], ◌∷◌}
 use Rattle.fut_scalar.specs.declared.place.BindId.{BindId}
 use Rattle.fut_scalar.specs.declared.place.Place.{Place}
 use Rattle.fut_scalar.specs.declared.report.FailKind.TheVariants as kind
@@ -11,12 +11,19 @@ use Rattle.fut_flat.specs.declared.prim.Ref.{Ref}
 use Rattle.fut_flat.specs.declared.prim.Ref.TheVariants as ref
 use Rattle.fut_flat.specs.Erased.{FlatTerm, FlatTurns}
 use Rattle.fut_flat.specs.Terms.{Operation, Coerce, Use, Strict, Lambda, Apply, Let, If, Loop, Terms, no_term, term_and, Counted, Over, While}
+use Rattle.fut_primitives.specs.declared.written.Letter.{Letter}
+use Rattle.fut_primitives.specs.declared.written.Size.{Size as Length}
+use Rattle.fut_primitives.specs.Table.{written, own_of, from_of}
+use Rattle.fut_value.specs.Data.{Shape, Datum}
+use Rattle.fut_meaning.specs.Arrays.{Making, made}
 use Rattle.fut_meaning.specs.Flats.{FlatValue, FlatEnv, Named_term, Flat_means}
 use Rattle.fut_meaning.specs.Found.{Told}
 use Rattle.fut_meaning.specs.Meaning.{plain, unrestricted}
 use Rattle.fut_meaning.specs.Outcomes.{Fail, Wrong}
 use Rattle.fut_meaning.specs.Values.{Scalar_value, Tuple_value, Record_value, Array_value, Closure, Primitive_value, no_value, value_and, no_field, field_and, base, bind, entered}
 use Rattle.sized_meaning.specs.Fits.{FlatValues, FlatFields}
+use Rattle.sized_meaning.specs.Law.{World}
+use Rattle.sized_meaning.specs.Misfits.{Of_shapes, data_taken, Function_fits, applies, primitive_gives, Made_of_shapes}
 
 -- each `:>` and each `unflatten` stands at one of these places
 module _ (is_there : Place → Bool) where
@@ -92,3 +99,17 @@ abbrev pub OtherSizesMisfit : Type 0
 OtherSizesMisfit = (told : Told) (tight : Bool) (budget : ℕ) (ds : List Named_term) (entry : BindId) (arguments : List FlatValue) (is_there : Place → Bool) → Definitions_there is_there ds → Arguments_there is_there arguments
     → (r : Report) (words : ℕ) → Flat_means told (plain tight) budget ds entry arguments (Fail r) words → r.kind ≡ kind.Size
     → (is_there r.place ≡ true) ⊎ ((made : ℕ) × Flat_means told (unrestricted tight true) budget ds entry arguments Wrong made)
+
+-- ---- where what does not fit is reported
+
+-- On data of the shapes that it takes a primitive other than `unflatten` reports no size by itself: what it reports comes from its
+-- function.
+abbrev pub PrimitivesReportNoSizes : Type 0
+PrimitivesReportNoSizes = (size : Length → ℕ) (shape : Letter → Shape) (W : World) (row : Shape) (p : Primitive) (at : Place) (ds : List Datum) (f : FlatValue) (is_there : Place → Bool)
+    → Primitive_there is_there p at → Of_shapes (data_taken size shape (own_of p) (from_of p) (written p)) ds → Function_fits size shape (own_of p) (from_of p) (applies W p f) (written p)
+    → ((es : List Datum) (r : Report) (words : ℕ) → applies W p f es (Fail r) words → r.kind ≡ kind.Size → is_there r.place ≡ true)
+    → (r : Report) (words : ℕ) → primitive_gives W false row p at ds f (Fail r) words → r.kind ≡ kind.Size → is_there r.place ≡ true
+
+-- nor does an operation on arrays
+abbrev pub OperationsReportNoSizes : Type 0
+OperationsReportNoSizes = (row : Shape) (m : Making) (at : Place) (ds : List Datum) (r : Report) → Made_of_shapes m ds → made false row m at ds ≡ Fail r → r.kind ≡ kind.Size → ⊥

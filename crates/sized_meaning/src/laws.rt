@@ -4,7 +4,7 @@ ghost use Rattle.sized_meaning.specs.Entered.{CoercedHasItsSizes, FoundUnderName
 ghost use Rattle.sized_meaning.specs.Finding.{FoundIsRight, StandingIsFound, ToldIsRight};
 ghost use Rattle.sized_meaning.specs.Law.{ValuesHaveTheirSizes};
 ghost use Rattle.sized_meaning.specs.Misfits.{DataIsOfItsShape, NoOperationMisfits, NoPrimitiveMisfits};
-ghost use Rattle.sized_meaning.specs.Reports.{OtherSizesMisfit, SizesAreReportedThere};
+ghost use Rattle.sized_meaning.specs.Reports.{OperationsReportNoSizes, OtherSizesMisfit, PrimitivesReportNoSizes, SizesAreReportedThere};
 ghost use Rattle.sized_meaning.specs.Programs.{DefinitionsAreEntered, ProgramsGiveTheirShapes, ProgramsHaveTheirSizes, SizedProgramsFind};
 
 /// Where a sized type suits another, each value of the one is of the other.
@@ -123,4 +123,17 @@ pub fn sizes_are_reported_there()
 #[tactic(auto, using(crate::proofs::Size_reports::other_sizes_misfit))]
 pub fn other_sizes_misfit()
     ensures { OtherSizesMisfit }
+{}
+
+/// Where what does not fit is reported, a primitive other than `unflatten` reports no size by itself on data of the shapes that it
+/// takes.
+#[tactic(auto, using(crate::proofs::Plain_reports::primitives_report_no_sizes))]
+pub fn primitives_report_no_sizes()
+    ensures { PrimitivesReportNoSizes }
+{}
+
+/// Nor does an operation on arrays, of elements of one shape or of what updates an array.
+#[tactic(auto, using(crate::proofs::Plain_reports::operations_report_no_sizes))]
+pub fn operations_report_no_sizes()
+    ensures { OperationsReportNoSizes }
 {}

@@ -28,7 +28,8 @@ mod laws;
 pub use laws::{
     coerced_has_its_sizes, data_is_of_its_shape, definitions_are_entered, found_is_right,
     found_under_names_is_right, literal_rows_are_right, no_operation_misfits, no_primitive_misfits,
-    other_sizes_misfit, programs_give_their_shapes, programs_have_their_sizes, sized_programs_find,
+    operations_report_no_sizes, other_sizes_misfit, primitives_report_no_sizes,
+    programs_give_their_shapes, programs_have_their_sizes, sized_programs_find,
     sizes_are_reported_there, standing_is_found, suiting_values_fit, told_is_right,
     values_have_their_sizes, values_read,
 };
