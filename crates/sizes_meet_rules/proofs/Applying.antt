@@ -247,7 +247,7 @@ module _ (N : Names) (types : Sub) (home : ℕ → ℕ) (K : Kinds) (places : Ki
             now = z
     argument_meets e mid hi st part before a l h (inr (inl W)) q = absurd (no_data_function W.of_function.0 W.of_function.1.0 mid W.of_function.1.1 h)
     argument_meets e mid hi st part before a l h (inr (inr W)) q =
-        let x1 = then_ok (finished N types mid (Applied W.function false (W.argument ∷ W.others)) before) (ap (λ x. as_argument N types mid e x before) (sym W.is_applied) ∙ q) in
+        let x1 = then_ok (finished N types mid (Applied W.function W.regular (W.argument ∷ W.others)) before) (ap (λ x. as_argument N types mid e x before) (sym W.is_applied) ∙ q) in
         let M = W.by_itself x1.first (ap (λ x. finished N types mid x before) W.is_applied ∙ x1.done) in
         subst (λ (d : Done Argument). Argument_meets e mid hi st d.result d.state) (same_ok x1.rest)
         (record { value = None; named = false; size = x1.first.result; is_early = refl; value_is = inl refl; inner = inner_of N types home In Vars scope e mid hi st x1.first.result x1.first.state M; here = λ x. M.here })

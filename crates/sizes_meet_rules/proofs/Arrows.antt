@@ -1,8 +1,9 @@
 -- The function type of one parameter: what it binds is found again where the function is entered.
-use Rattle.std.proofs.Common.{◌≡◌, ◌⊎◌, ℕ, suc, ◌+◌, ◌-◌, ◌<◌, ◌≤◌, List, [], length, Bool, true, false, ◌||◌, cond, nat_eq, Option, Some, None, refl, sym, ap, ◌∙◌, subst, arith, inl, inr, eqb-true, eq-eqb, lt-ltb, ltb-true}
+use Rattle.std.proofs.Common.{◌≡◌, ◌⊎◌, ℕ, suc, ◌+◌, ◌-◌, ◌<◌, ◌≤◌, List, length, Bool, true, false, ◌||◌, cond, nat_eq, Option, Some, None, refl, sym, ap, ◌∙◌, subst, arith, inl, inr, eqb-true, eq-eqb, lt-ltb, ltb-true}
 use Rattle.std.specs.Prelude.{nat_lt}
 use Rattle.std.proofs.lemmas.Bool.{ne_eqb}
 use Rattle.fut_flat.specs.Numbers.{pattern_numbers}
+use Rattle.fut_flat.specs.Terms.{Bound_pattern, Wild_pattern, Tuple_pattern, Record_pattern, Typed_pattern}
 use Rattle.fut_flat.specs.Erased.{FlatPattern}
 use Rattle.fut_types.specs.declared.Kind.{Kind}
 use Rattle.fut_types.specs.Types.{Sub, Kinds}
@@ -11,10 +12,12 @@ use Rattle.sized_types.specs.Sizes.{Free, Const, Name, Own, Unknown, Slot, Dim, 
 use Rattle.sized_types.specs.Standing.{stands, some_stands}
 use Rattle.fut_sizes.specs.Functions.{stands_among, sizes_in, position_from, or_position, value_name, value_position, is_own, Taking, frame_of, arrow}
 use Rattle.fut_sizes.specs.Rules.{Outside, Away, Pattern_takes, Named_value, Binder}
+use Rattle.fut_sizes.specs.Agreeing.{is_among}
+use Rattle.fut_sizes.specs.Scopes.{names}
 use Rattle.fut_sizes.specs.Suiting.{Each, Each_all, Scoped, Of_positions}
 use Rattle.sizes_meet_rules.specs.Known.{Is_const, Elsewhere}
 use Rattle.sizes_meet_rules.specs.Plain.{Plain_pattern}
-use Rattle.sizes_meet_rules.proofs.Listing.{nth, Some_at, found_at, among_found, among_nth, once_found, all_nth, sizes_once, sizes_are, sizes_listed}
+use Rattle.sizes_meet_rules.proofs.Listing.{nth, Some_at, found_at, among_found, among_nth, once_found, all_nth, sizes_once, sizes_are, sizes_listed, listed_has}
 use Rattle.sizes_meet_rules.proofs.Meeting.{In_nodes, each_scoped, inside_wider, order}
 use Rattle.sizes_meet_rules.proofs.Naming.{value_home}
 use Rattle.sizes_meet_rules.proofs.Taking.{pattern_some}
@@ -104,13 +107,27 @@ none_some {a = a} e = absurd (let z : None ≡ Some a = e in cc)
 some_same : {A : Type 0} {a b : A} → Some a ≡ Some b → a ≡ b
 some_same e = cc
 
+-- size names of a head that no parameter before has chosen: no name of the pattern is one of them, and those that it chooses are at
+-- home there
+pub record Headed (home : ℕ → ℕ) (bs : List ℕ) (p : FlatPattern) (q : ℕ) (own : Size) : Type 0 where
+  pub apart : (b : ℕ) → is_among (names p) b ≡ true → is_among bs b ≡ false
+  pub at_home : (b : ℕ) → stands_among (sizes_in (is_own bs q) own) (Name b) ≡ true → home b ≡ q
+
+-- the name that is a parameter's value is one of the pattern's
+value_among : (p : FlatPattern) (b : ℕ) → value_name p ≡ Some b → is_among (names p) b ≡ true
+value_among (Bound_pattern x) b e = ap (λ c. cond c true false) (eq-eqb b x.0 (let z : Some x.0 ≡ Some b = e in let y : b ≡ x.0 = cc in y))
+value_among Wild_pattern b e = none_some e
+value_among (Tuple_pattern ps) b e = none_some e
+value_among (Record_pattern fs ps) b e = none_some e
+value_among (Typed_pattern p t) b e = value_among p b e
+
 module _ (N : Names) (types : Sub) (home : ℕ → ℕ) (K : Kinds) (places : Kind) (lo at hi q : ℕ) (p : FlatPattern) (plain : Plain_pattern types home K places p q) (In : Free → Type 0) (E : Elsewhere N types home q hi In) (l2 : q < at) (l3 : at ≤ hi)
-    (own : Size) (own_is : Each (Scoped (λ x. (is_own [] q x ≡ true) ⊎ (In x ⊎ Is_const x))) 0 own) (own_stands : Each (Scoped (λ x. stands own x ≡ true)) 0 own) where
+    (bs : List ℕ) (own : Size) (own_is : Each (Scoped (λ x. (is_own bs q x ≡ true) ⊎ (In x ⊎ Is_const x))) 0 own) (own_stands : Each (Scoped (λ x. stands own x ≡ true)) 0 own) (head : Headed home bs p q own) where
   abbrev pub taking : Taking
   taking = record { pattern = p; node = q; size = own }
 
   abbrev pub chosen : List Free
-  chosen = sizes_in (is_own [] q) own
+  chosen = sizes_in (is_own bs q) own
 
   abbrev pub frame : List Free → Free → Option ℕ
   frame met d = frame_of chosen taking met d
@@ -130,7 +147,7 @@ module _ (N : Names) (types : Sub) (home : ℕ → ℕ) (K : Kinds) (places : Ki
 
   -- of the parameter's own sizes, or written
   abbrev pub Own_or_known : Free → Type 0
-  Own_or_known x = (is_own [] q x ≡ true) ⊎ Or_const x
+  Own_or_known x = (is_own bs q x ≡ true) ⊎ Or_const x
 
   own_free : (j : ℕ) (d : Dim) → Scoped Own_or_known j d → (x : Free) → d ≡ At x → Own_or_known x
   own_free j (At y) h x e = subst Own_or_known (let z : y ≡ x = cc in z) h
@@ -139,21 +156,38 @@ module _ (N : Names) (types : Sub) (home : ℕ → ℕ) (K : Kinds) (places : Ki
   pub standing_own : (x : Free) → stands own x ≡ true → Own_or_known x
   standing_own x e = standing_has Own_or_known own 0 x (each_as (Scoped Own_or_known) (λ j d. (y : Free) → d ≡ At y → Own_or_known y) own_free own 0 own_is) e
 
-  pub standing_chosen : (x : Free) → stands own x ≡ true → is_own [] q x ≡ true → stands_among chosen x ≡ true
-  standing_chosen x e o = standing_has (λ y. is_own [] q y ≡ true → stands_among chosen y ≡ true) own 0 x (sizes_listed (is_own [] q) own) e o
+  pub standing_chosen : (x : Free) → stands own x ≡ true → is_own bs q x ≡ true → stands_among chosen x ≡ true
+  standing_chosen x e o = standing_has (λ y. is_own bs q y ≡ true → stands_among chosen y ≡ true) own 0 x (sizes_listed (is_own bs q) own) e o
 
-  pub owned_here : (x : Free) → is_own [] q x ≡ true → In_nodes N types home q (1 + q) x
-  owned_here (Own n i) e = let z : n ≡ q = eqb-true n q e in (omega (arith, z), omega (arith, z))
-  owned_here (Const c) e = absurd (let z : false ≡ true = e in cc)
-  owned_here (Name c) e = absurd (let z : false ≡ true = e in cc)
-  owned_here (Unknown n i) e = absurd (let z : false ≡ true = e in cc)
-  owned_here (Slot i) e = absurd (let z : false ≡ true = e in cc)
+  pub value_apart : (b : ℕ) → value_name p ≡ Some b → is_among bs b ≡ false
+  value_apart b e = head.apart b (value_among p b e)
 
-  chosen_here : (x : Free) (i : ℕ) → position_from 0 chosen x ≡ Some i → is_own [] q x ≡ true
+  -- what the parameter chooses is made or bound there
+  chosen_at : (x : Free) → is_own bs q x ≡ true → stands_among chosen x ≡ true → In_nodes N types home q (1 + q) x
+  chosen_at (Own n i) e s = let z : n ≡ q = eqb-true n q e in (omega (arith, z), omega (arith, z))
+  chosen_at (Name c) e s = let z : home c ≡ q = head.at_home c s in (omega (arith, z), omega (arith, z))
+  chosen_at (Const c) e s = absurd (let z : false ≡ true = e in cc)
+  chosen_at (Unknown n i) e s = absurd (let z : false ≡ true = e in cc)
+  chosen_at (Slot i) e s = absurd (let z : false ≡ true = e in cc)
+
+  pub owned_here : (x : Free) → is_own bs q x ≡ true → stands own x ≡ true → In_nodes N types home q (1 + q) x
+  owned_here x e s = chosen_at x e (standing_chosen x s e)
+
+  pub chosen_here : (x : Free) (i : ℕ) → position_from 0 chosen x ≡ Some i → is_own bs q x ≡ true
   chosen_here x i e = by_place (found_at chosen 0 x i e)
     where
-      by_place : Some_at chosen 0 x i → is_own [] q x ≡ true
-      by_place (j, a, b, c) = ap (is_own [] q) (sym c) ∙ all_nth (is_own [] q) chosen (sizes_are (is_own [] q) own) j b
+      by_place : Some_at chosen 0 x i → is_own bs q x ≡ true
+      by_place (j, a, b, c) = ap (is_own bs q) (sym c) ∙ all_nth (is_own bs q) chosen (sizes_are (is_own bs q) own) j b
+
+  pub chosen_among : (x : Free) (i : ℕ) → position_from 0 chosen x ≡ Some i → stands_among chosen x ≡ true
+  chosen_among x i e = by_place (found_at chosen 0 x i e)
+    where
+      by_place : Some_at chosen 0 x i → stands_among chosen x ≡ true
+      by_place (j, a, b, c) = subst (λ y. stands_among chosen y ≡ true) c (among_nth chosen j b)
+
+  -- what is chosen stands in the parameter's type, where all of its sizes do
+  pub chosen_stands : (x : Free) → stands_among chosen x ≡ true → stands own x ≡ true
+  chosen_stands x s = listed_has (λ y. stands own y ≡ true) (is_own bs q) own own_stands x s
 
   -- its name is at home there
   abbrev Named_home : Option ℕ → Type 0
@@ -184,7 +218,7 @@ module _ (N : Names) (types : Sub) (home : ℕ → ℕ) (K : Kinds) (places : Ki
   position_here x i e = by_chosen (position_from 0 chosen x) refl e
     where
       by_chosen : (o : Option ℕ) → position_from 0 chosen x ≡ o → or_position o (value_place (value_name p) q (length chosen) x) ≡ Some i → In_nodes N types home q (1 + q) x
-      by_chosen (Some j) f e = owned_here x (chosen_here x j f)
+      by_chosen (Some j) f e = chosen_at x (chosen_here x j f) (chosen_among x j f)
       by_chosen None f e = value_here (value_name p) (value_home types home K places p q plain) x (length chosen) i e
 
   const_outside : (a b : ℕ) (x : Free) → Is_const x → In_nodes N types home a b x → ⊥
@@ -319,7 +353,7 @@ module _ (N : Names) (types : Sub) (home : ℕ → ℕ) (K : Kinds) (places : Ki
       where
         by_place : (r : Option ℕ) → position_from 0 chosen x ≡ r → position_from 0 chosen x ≡ None
         by_place None f = f
-        by_place (Some i) f = absurd (known_nowhere x o (owned_here x (chosen_here x i f)))
+        by_place (Some i) f = absurd (known_nowhere x o (chosen_at x (chosen_here x i f) (chosen_among x i f)))
 
     known_not_value : (r : Option ℕ) → Named_home r → (x : Free) → Or_const x → (k i : ℕ) → value_position k q r x ≡ Some i → ⊥
     known_not_value (Some y) h (Name c) o k i e = by_name (nat_eq y c) refl e
@@ -370,7 +404,7 @@ module _ (N : Names) (types : Sub) (home : ℕ → ℕ) (K : Kinds) (places : Ki
             by_place w.0 (some_same (sym e ∙ ap (λ r. or_position r (or_position (value_position (length chosen) q (value_name p) x) (position_from (suc (length chosen)) met x))) w.1)) (found_at chosen 0 x w.0 w.1)
         by_own (inr o) = absurd (known_no_frame x o m e)
 
-    not_chosen : (x : Free) → is_own [] q x ≡ false → position_from 0 chosen x ≡ None
+    not_chosen : (x : Free) → is_own bs q x ≡ false → position_from 0 chosen x ≡ None
     not_chosen x e = by_place (position_from 0 chosen x) refl
       where
         by_place : (r : Option ℕ) → position_from 0 chosen x ≡ r → position_from 0 chosen x ≡ None
@@ -379,12 +413,12 @@ module _ (N : Names) (types : Sub) (home : ℕ → ℕ) (K : Kinds) (places : Ki
 
     -- the argument's value, and what is met, have positions behind those that are chosen
     pub frame_value : (x : Free) → Is_value (value_name p) x → frame met x ≡ Some (length chosen)
-    frame_value x v = by_value (value_name p) v
+    frame_value x v = by_value (value_name p) value_apart v
       where
-        by_value : (r : Option ℕ) → Is_value r x → or_position (position_from 0 chosen x) (or_position (value_position (length chosen) q r x) (position_from (suc (length chosen)) met x)) ≡ Some (length chosen)
-        by_value (Some y) v = ap (λ c. or_position c (or_position (value_position (length chosen) q (Some y) x) (position_from (suc (length chosen)) met x))) (not_chosen x (ap (is_own [] q) v)) ∙ ap (λ z. or_position (value_position (length chosen) q (Some y) z) (position_from (suc (length chosen)) met x)) v
+        by_value : (r : Option ℕ) → ((b : ℕ) → r ≡ Some b → is_among bs b ≡ false) → Is_value r x → or_position (position_from 0 chosen x) (or_position (value_position (length chosen) q r x) (position_from (suc (length chosen)) met x)) ≡ Some (length chosen)
+        by_value (Some y) apart v = ap (λ c. or_position c (or_position (value_position (length chosen) q (Some y) x) (position_from (suc (length chosen)) met x))) (not_chosen x (ap (is_own bs q) v ∙ apart y refl)) ∙ ap (λ z. or_position (value_position (length chosen) q (Some y) z) (position_from (suc (length chosen)) met x)) v
             ∙ ap (λ b. or_position (cond b (Some (length chosen)) None) (position_from (suc (length chosen)) met x)) (eq-eqb y y refl)
-        by_value None v = absurd v
+        by_value None apart v = absurd v
 
     pub frame_met : (x : Free) → stands_among met x ≡ true → (j : ℕ) × (frame met x ≡ Some (suc (length chosen) + j))
     frame_met x s = by_form (mets x s)
@@ -401,7 +435,7 @@ module _ (N : Names) (types : Sub) (home : ℕ → ℕ) (K : Kinds) (places : Ki
             let w = among_found met (suc (length chosen)) x s in
             let k = by_place w.0 w.1 (found_at met (suc (length chosen)) x w.0 w.1) in (
               k.0,
-              ap (λ c. or_position c (or_position (value_position (length chosen) q (value_name p) x) (position_from (suc (length chosen)) met x))) (not_chosen x (ap (is_own [] q) e))
+              ap (λ c. or_position c (or_position (value_position (length chosen) q (value_name p) x) (position_from (suc (length chosen)) met x))) (not_chosen x (ap (is_own bs q) e))
                   ∙ ap (λ z. or_position (value_position (length chosen) q (value_name p) z) (position_from (suc (length chosen)) met x)) e ∙ ap (λ c. or_position c (position_from (suc (length chosen)) met x)) (no_value (value_name p) n i) ∙ k.1,
             )
 
@@ -421,7 +455,7 @@ module _ (N : Names) (types : Sub) (home : ℕ → ℕ) (K : Kinds) (places : Ki
         known (inr c) z = subst Is_const (sym z) c
 
         by_own : Own_or_known x → Unknown q 0 ≡ x → ⊥
-        by_own (inl s) z = let w : false ≡ true = ap (is_own [] q) z ∙ s in cc
+        by_own (inl s) z = let w : false ≡ true = ap (is_own bs q) z ∙ s in cc
         by_own (inr w) z = known w z
 
         by_form : May_stand met x → Is_value (value_name p) x
@@ -431,16 +465,16 @@ module _ (N : Names) (types : Sub) (home : ℕ → ℕ) (K : Kinds) (places : Ki
         by_form (inr (inr (inr (inl c)))) = other (value_name p) here (known (inr c))
         by_form (inr (inr (inr (inr s)))) = absurd (let w = frame_met x s in let z : suc (length chosen) + w.0 ≡ length chosen = some_same (sym w.1 ∙ e) in omega (arith, z))
 
-    placed_value : (r : Option ℕ) → or_position (position_from 0 chosen (value_of r q)) (value_place r q (length chosen) (value_of r q)) ≡ Some (length chosen)
-    placed_value (Some y) = ap (λ r. or_position r (value_place (Some y) q (length chosen) (Name y))) (not_chosen (Name y) refl) ∙ ap (λ b. cond b (Some (length chosen)) None) (eq-eqb y y refl)
-    placed_value None = ap (λ r. or_position r (value_place None q (length chosen) (Unknown q 0))) (not_chosen (Unknown q 0) refl) ∙ ap (λ b. cond b (Some (length chosen)) None) (eq-eqb q q refl)
+    placed_value : (r : Option ℕ) → ((b : ℕ) → r ≡ Some b → is_among bs b ≡ false) → or_position (position_from 0 chosen (value_of r q)) (value_place r q (length chosen) (value_of r q)) ≡ Some (length chosen)
+    placed_value (Some y) apart = ap (λ r. or_position r (value_place (Some y) q (length chosen) (Name y))) (not_chosen (Name y) (apart y refl)) ∙ ap (λ b. cond b (Some (length chosen)) None) (eq-eqb y y refl)
+    placed_value None apart = ap (λ r. or_position r (value_place None q (length chosen) (Unknown q 0))) (not_chosen (Unknown q 0) refl) ∙ ap (λ b. cond b (Some (length chosen)) None) (eq-eqb q q refl)
 
     pub placed_at : (i : ℕ) → i ≤ length chosen → position (inside met i) ≡ Some i
     placed_at i a = by_side (order i (length chosen))
       where
         by_side : (i < length chosen) ⊎ (length chosen ≤ i) → position (inside met i) ≡ Some i
-        by_side (inl b) = ap position (at_chosen i b) ∙ ap (λ r. or_position r (value_place (value_name p) q (length chosen) (nth chosen i))) (once_found chosen (sizes_once (is_own [] q) own) 0 i b) ∙ ap Some (let z : 0 + i ≡ i = omega arith in z)
-        by_side (inr b) = let z : i ≡ length chosen = omega (arith, a, b) in ap (λ j. position (inside met j)) z ∙ ap position at_value ∙ placed_value (value_name p) ∙ ap Some (sym z)
+        by_side (inl b) = ap position (at_chosen i b) ∙ ap (λ r. or_position r (value_place (value_name p) q (length chosen) (nth chosen i))) (once_found chosen (sizes_once (is_own bs q) own) 0 i b) ∙ ap Some (let z : 0 + i ≡ i = omega arith in z)
+        by_side (inr b) = let z : i ≡ length chosen = omega (arith, a, b) in ap (λ j. position (inside met j)) z ∙ ap position at_value ∙ placed_value (value_name p) value_apart ∙ ap Some (sym z)
 
     module _ (Elow : Elsewhere N types home lo (1 + lo) In) (s : ℕ → Size) (here : s q ≡ own) (takes : Pattern_takes N types s home (λ d. d) p q (s q)) where
       abbrev Kept : Free → Type 0
@@ -450,8 +484,8 @@ module _ (N : Names) (types : Sub) (home : ℕ → ℕ) (K : Kinds) (places : Ki
       kept_of x (inl i) = (known_no_position x (inl i), λ h. E.outside x i (inside_wider N types home at hi q hi (omega (arith, l2)) (omega arith) x h), λ h. Elow.outside x i h)
       kept_of x (inr i) = (known_no_position x (inr i), λ h. const_outside at hi x i h, λ h. const_outside lo (1 + lo) x i h)
 
-      pub own_away : (x : Free) → Own_or_known x → In_nodes N types home (q + pattern_numbers p) hi x → ⊥
-      own_away x (inl e) h = beyond x (owned_here x e) h (pattern_some p)
+      pub own_away : (x : Free) → Own_or_known x → stands own x ≡ true → In_nodes N types home (q + pattern_numbers p) hi x → ⊥
+      own_away x (inl e) y h = beyond x (owned_here x e y) h (pattern_some p)
         where
           beyond : (x : Free) → In_nodes N types home q (1 + q) x → In_nodes N types home (q + pattern_numbers p) hi x → 1 ≤ pattern_numbers p → ⊥
           beyond (Const c) i h n = i
@@ -459,8 +493,8 @@ module _ (N : Names) (types : Sub) (home : ℕ → ℕ) (K : Kinds) (places : Ki
           beyond (Name c) i h n = let a = i.1 in let b = h.0 in omega (arith, a, b, n)
           beyond (Own c m) i h n = let a = i.1 in let b = h.0 in omega (arith, a, b, n)
           beyond (Unknown c m) i h n = let a = i.1 in let b = h.0 in omega (arith, a, b, n)
-      own_away x (inr (inl i)) h = E.outside x i (inside_wider N types home (q + pattern_numbers p) hi q hi (omega arith) (omega arith) x h)
-      own_away x (inr (inr c)) h = const_outside (q + pattern_numbers p) hi x c h
+      own_away x (inr (inl i)) y h = E.outside x i (inside_wider N types home (q + pattern_numbers p) hi q hi (omega arith) (omega arith) x h)
+      own_away x (inr (inr c)) y h = const_outside (q + pattern_numbers p) hi x c h
 
       pub value_named : (r : Option ℕ) (d : Free) → d ≡ value_of r q → Named_value N types s home r d
       value_named (Some y) d e = e
@@ -484,6 +518,6 @@ module _ (N : Names) (types : Sub) (home : ℕ → ℕ) (K : Kinds) (places : Ki
         parts = takes;
         low = bound_low (frame met) (λ i. i < length chosen) own (each_scoped (λ x. stands own x ≡ true) (λ x. (m : ℕ) → frame met x ≡ Some m → m < length chosen) frame_chosen own 0 own_stands);
         kept = all_kept t h;
-        away = subst (λ w. Away N types s home (q + pattern_numbers p) hi w) (sym here) (each_scoped Own_or_known (λ x. Outside N types s home (q + pattern_numbers p) hi x) own_away own 0 own_is);
+        away = subst (λ w. Away N types s home (q + pattern_numbers p) hi w) (sym here) (each_scoped (λ x. stands own x ≡ true) (λ x. Outside N types s home (q + pattern_numbers p) hi x) (λ x y. own_away x (standing_own x y) y) own 0 own_stands);
         named = value_named (value_name p) (inside met (length chosen)) at_value;
       }

@@ -47,6 +47,20 @@ Takes_all [] t = Data t
 Takes_all (g ∷ gs) (Fun k p r) = (Data p × (erased p ≡ erased g.size)) × Takes_all gs r
 Takes_all (g ∷ gs) t = ⊥
 
+-- a function of that many arguments
+abbrev pub Has_arrows : List Given → Size → Type 0
+Has_arrows [] t = Unit {0}
+Has_arrows (g ∷ gs) (Fun k p r) = Has_arrows gs r
+Has_arrows (g ∷ gs) t = ⊥
+
+pub takes_arrows : (gs : List Given) (t : Size) → Takes_all gs t → Has_arrows gs t
+takes_arrows [] t h = tt
+takes_arrows (g ∷ gs) (Fun k p r) h = takes_arrows gs r h.1
+takes_arrows (g ∷ gs) (Hole v) h = absurd h
+takes_arrows (g ∷ gs) (Open m v u) h = absurd h
+takes_arrows (g ∷ gs) (Level d t) h = absurd h
+takes_arrows (g ∷ gs) (Built f ts) h = absurd h
+
 -- what the positions of a function stand for that is applied at a node, whose numbers begin at the next
 abbrev pub frame : ℕ → ℕ → ℕ → Option Free → ℕ → Free
 frame lo next k value i = cond (nat_lt i k) (Slot (next + i)) (cond (nat_eq i k) (or_unknown value (Unknown lo (next + k))) (Unknown lo (next + i)))
@@ -135,12 +149,12 @@ module _ (n : ℕ) where
   last_found (g ∷ gs) (Fun k p r) σ = last_found gs r (after gs σ k r)
   last_found gs t σ = σ
 
-  applied_is : (reg : Bool) (gs : List Given) (ws : List Wanting) (φ : Opened) (b : Bool) (t : Size) (ls : List Later) (σ : Found) → Takes_all gs t
+  applied_is : (reg : Bool) (gs : List Given) (ws : List Wanting) (φ : Opened) (b : Bool) (t : Size) (ls : List Later) (σ : Found) → Has_arrows gs t
       → applied n reg (arguments gs) ws φ b t ls σ ≡ applied n reg [] (ws ++ wants gs φ t σ) (last_opened gs φ t σ) (last_goes gs b t) (last_size gs t) (ls ++ laters gs φ t σ) (last_found gs t σ)
   unfolding applied
   applied_is reg [] ws φ b t ls σ h = ap (λ x. applied n reg [] x φ b t ls σ) (sym (append-nil ws)) ∙ ap (λ x. applied n reg [] (ws ++ []) φ b t x σ) (sym (append-nil ls))
   applied_is reg (g ∷ gs) ws φ b (Fun k p r) ls σ h =
-      applied_is reg gs (ws ++ w ∷ []) (opened_by gs g σ k φ) (is_arrow r) r (ls ++ l ∷ []) (after gs σ k r) h.1
+      applied_is reg gs (ws ++ w ∷ []) (opened_by gs g σ k φ) (is_arrow r) r (ls ++ l ∷ []) (after gs σ k r) h
       ∙ ap (λ x. applied n reg [] x (last_opened gs (opened_by gs g σ k φ) r (after gs σ k r)) (last_goes gs (is_arrow r) r) (last_size gs r) ((ls ++ l ∷ []) ++ laters gs (opened_by gs g σ k φ) r (after gs σ k r)) (last_found gs r (after gs σ k r))) (append_assoc ws (w ∷ []) (wants gs (opened_by gs g σ k φ) r (after gs σ k r)))
       ∙ ap (λ x. applied n reg [] (ws ++ (w ∷ wants gs (opened_by gs g σ k φ) r (after gs σ k r))) (last_opened gs (opened_by gs g σ k φ) r (after gs σ k r)) (last_goes gs (is_arrow r) r) (last_size gs r) x (last_found gs r (after gs σ k r))) (append_assoc ls (l ∷ []) (laters gs (opened_by gs g σ k φ) r (after gs σ k r)))
     where
@@ -158,12 +172,12 @@ module _ (n : ℕ) where
   All_data [] = Unit {0}
   All_data (g ∷ gs) = Data g.size × All_data gs
 
-  no_function_met : (reg : Bool) (gs : List Given) (φ : Opened) (t : Size) (σ : Found) → Takes_all gs t → All_data gs → (τ : Found) (st : State) → functions_met reg (wants gs φ t σ) τ st ≡ Ok (record { result = τ; state = st })
+  no_function_met : (reg : Bool) (gs : List Given) (φ : Opened) (t : Size) (σ : Found) → Has_arrows gs t → All_data gs → (τ : Found) (st : State) → functions_met reg (wants gs φ t σ) τ st ≡ Ok (record { result = τ; state = st })
   unfolding functions_met
   no_function_met reg [] φ t σ h d τ st = refl
   no_function_met reg (g ∷ gs) φ (Fun k p r) σ h d τ st =
       ap (λ b. and_then (cond b (ask (meet (here gs) (function_way reg) g.node (opened_by gs g σ k φ) p none_opened g.size (made_at (here gs) τ))) (give τ)) (λ found. functions_met reg (wants gs (opened_by gs g σ k φ) r (after gs σ k r)) found) st) (no_function g.size d.0)
-      ∙ no_function_met reg gs (opened_by gs g σ k φ) r (after gs σ k r) h.1 d.1 τ st
+      ∙ no_function_met reg gs (opened_by gs g σ k φ) r (after gs σ k r) h d.1 τ st
   no_function_met reg (g ∷ gs) φ (Hole v) σ h d τ st = absurd h
   no_function_met reg (g ∷ gs) φ (Open m v u) σ h d τ st = absurd h
   no_function_met reg (g ∷ gs) φ (Level e t) σ h d τ st = absurd h
@@ -190,7 +204,7 @@ module _ (n : ℕ) where
     finished_at : (reg : Bool) (xs : List Argument) (t : Size) (st : State) (u : Done Size) → finished N types n (Applied t reg xs) st ≡ Ok u → (m : Done Met) × (applied n reg xs [] none_opened true t [] nothing_found st ≡ Ok m) × (met_noted N types n m.result m.state ≡ Ok u)
     finished_at reg xs t st u q = let x = then_ok (applied n reg xs [] none_opened true t [] nothing_found st) q in (x.first, x.done, x.rest)
 
-    pub matched_ran : (reg : Bool) (gs : List Given) (t : Size) (st : State) (u : Done Size) → Takes_all gs t → All_data gs → finished N types n (Applied t reg (arguments gs)) st ≡ Ok u → Matched_ran gs t st u
+    pub matched_ran : (reg : Bool) (gs : List Given) (t : Size) (st : State) (u : Done Size) → Has_arrows gs t → All_data gs → finished N types n (Applied t reg (arguments gs)) st ≡ Ok u → Matched_ran gs t st u
     matched_ran reg gs t st u h d q = record { found = C.0; met = C.1; noted = ap (λ (m : Done Met). met_noted N types n m.result m.state) (sym now) ∙ A.2 }
       where
         A : (m : Done Met) × (applied n reg (arguments gs) [] none_opened true t [] nothing_found st ≡ Ok m) × (met_noted N types n m.result m.state ≡ Ok u)

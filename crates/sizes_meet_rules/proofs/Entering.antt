@@ -199,21 +199,21 @@ module _ (N : Names) (types : Sub) (home : ℕ → ℕ) (K : Kinds) (places : Ki
       sooner n (inr x) = inr (omega (arith, x))
 
   -- ---- the steps of a lambda by itself
-  module _ (ps : Patterns Ref BindId) (e : FlatTerm) (lo at hi : ℕ) where
+  module _ (bs : List ℕ) (ps : Patterns Ref BindId) (e : FlatTerm) (lo at hi : ℕ) where
     abbrev lambda_last : List Taking → Size → Step Met
-    lambda_last ts body = and_then (ask (leaving_function lo (all_part_names ps) ts body)) (λ r. and_then (note lo (function_size [] lo hi ts r)) (λ own. ask (matched N types lo None own nothing_found)))
+    lambda_last ts body = and_then (ask (leaving_function lo (all_part_names ps) ts body)) (λ r. and_then (note lo (function_size bs lo hi ts r)) (λ own. ask (matched N types lo None own nothing_found)))
 
     abbrev lambda_body : List Taking → Scope → Step Met
     lambda_body ts inner = and_then (sized N types e [] at inner) (λ part. and_then (finished N types at part) (λ body. lambda_last ts body))
 
     abbrev lambda_rest : List Taking → Scope → Step Met
-    lambda_rest ts inner = and_then (ask (none_left N types at (unchosen [] ts))) (λ z. and_then (parameters_noted N types ts) (λ y. lambda_body ts inner))
+    lambda_rest ts inner = and_then (ask (none_left N types at (unchosen bs ts))) (λ z. and_then (parameters_noted N types ts) (λ y. lambda_body ts inner))
 
     record Last_ran (ts : List Taking) (body : Size) (st : State) (m : Done Met) : Type 0 where
       left : Size
       leaves : Lacks (all_part_names ps) ts × (leaving lo (all_part_names ps) body ≡ Ok left)
-      size : m.result.size ≡ function_size [] lo hi ts left
-      state : m.state ≡ (noted lo (function_size [] lo hi ts left) st).state
+      size : m.result.size ≡ function_size bs lo hi ts left
+      state : m.state ≡ (noted lo (function_size bs lo hi ts left) st).state
 
     last_ran : (ts : List Taking) (body : Size) (st : State) (m : Done Met) → lambda_last ts body st ≡ Ok m → Last_ran ts body st m
     unfolding matched
@@ -225,7 +225,7 @@ module _ (N : Names) (types : Sub) (home : ℕ → ℕ) (K : Kinds) (places : Ki
           left = x1.first.result;
           leaves = function_left lo (all_part_names ps) ts body x1.first.result a1.answer;
           size = ap (λ (d : Done Met). d.result.size) (sym last);
-          state = ap (λ (d : Done Met). d.state) (sym last) ∙ ap (λ z. (noted lo (function_size [] lo hi ts x1.first.result) z).state) a1.state;
+          state = ap (λ (d : Done Met). d.state) (sym last) ∙ ap (λ z. (noted lo (function_size bs lo hi ts x1.first.result) z).state) a1.state;
         }
 
     record Body_ran (ts : List Taking) (inner : Scope) (st : State) (m : Done Met) : Type 0 where
@@ -241,17 +241,22 @@ module _ (N : Names) (types : Sub) (home : ℕ → ℕ) (K : Kinds) (places : Ki
         let x2 = then_ok (finished N types at x1.first.result x1.first.state) x1.rest in
         record { part = x1.first; body = x2.first; part_is = x1.done; body_is = x2.done; rest = x2.rest }
 
+    all_chosen : (xs : List ℕ) (z : Unit {0}) → none_left N types at xs ≡ Ok z → xs ≡ []
+    all_chosen [] z e = refl
+    all_chosen (x ∷ xs) z e = refused_ok e
+
     record Rest_ran (ts : List Taking) (inner : Scope) (st : State) (m : Done Met) : Type 0 where
       parameters : Done (Unit {0})
+      none_left_there : unchosen bs ts ≡ []
       noted_is : parameters_noted N types ts st ≡ Ok parameters
       rest : lambda_body ts inner parameters.state ≡ Ok m
 
     rest_ran : (ts : List Taking) (inner : Scope) (st : State) (m : Done Met) → lambda_rest ts inner st ≡ Ok m → Rest_ran ts inner st m
     rest_ran ts inner st m q =
-        let x1 = then_ok (ask (none_left N types at (unchosen [] ts)) st) q in
-        let a1 = asked (none_left N types at (unchosen [] ts)) st x1.first x1.done in
+        let x1 = then_ok (ask (none_left N types at (unchosen bs ts)) st) q in
+        let a1 = asked (none_left N types at (unchosen bs ts)) st x1.first x1.done in
         let x2 = then_ok (parameters_noted N types ts x1.first.state) x1.rest in
-        record { parameters = x2.first; noted_is = ap (parameters_noted N types ts) (sym a1.state) ∙ x2.done; rest = x2.rest }
+        record { parameters = x2.first; none_left_there = all_chosen (unchosen bs ts) x1.first.result a1.answer; noted_is = ap (parameters_noted N types ts) (sym a1.state) ∙ x2.done; rest = x2.rest }
 
     pub record Lambda_ran (scope : Scope) (st : State) (m : Done Met) : Type 0 where
       pub fit : All_fit ps (1 + lo)
@@ -259,12 +264,13 @@ module _ (N : Names) (types : Sub) (home : ℕ → ℕ) (K : Kinds) (places : Ki
       pub part : Done Part
       pub body : Done Size
       pub left : Size
+      pub none_left_there : unchosen bs (takings ps (1 + lo)) ≡ []
       pub noted_is : Noted_all ps (1 + lo) st parameters
       pub part_is : sized N types e [] at (all_bound ps (1 + lo) scope) parameters ≡ Ok part
       pub body_is : finished N types at part.result part.state ≡ Ok body
       pub leaves : Lacks (all_part_names ps) (takings ps (1 + lo)) × (leaving lo (all_part_names ps) body.result ≡ Ok left)
-      pub size : m.result.size ≡ function_size [] lo hi (takings ps (1 + lo)) left
-      pub state : m.state ≡ (noted lo (function_size [] lo hi (takings ps (1 + lo)) left) body.state).state
+      pub size : m.result.size ≡ function_size bs lo hi (takings ps (1 + lo)) left
+      pub state : m.state ≡ (noted lo (function_size bs lo hi (takings ps (1 + lo)) left) body.state).state
 
     after_rest : Plain_patterns types home K places ps (1 + lo) → All_fit ps (1 + lo) → (scope : Scope) (st : State) (m : Done Met) → lambda_rest (takings ps (1 + lo)) (all_bound ps (1 + lo) scope) st ≡ Ok m → Lambda_ran scope st m
     after_rest h c scope st m q = record {
@@ -273,6 +279,7 @@ module _ (N : Names) (types : Sub) (home : ℕ → ℕ) (K : Kinds) (places : Ki
       part = B.part;
       body = B.body;
       left = L.left;
+      none_left_there = R.none_left_there;
       noted_is = all_noted ps (1 + lo) h c st R.parameters R.noted_is;
       part_is = B.part_is;
       body_is = B.body_is;
@@ -291,8 +298,8 @@ module _ (N : Names) (types : Sub) (home : ℕ → ℕ) (K : Kinds) (places : Ki
         L = last_ran (takings ps (1 + lo)) B.body.result B.body.state m B.rest
 
     abbrev entering : Entered → Step Met
-    entering E = and_then (ask (none_left N types at (unchosen [] E.parameters))) (λ z. and_then (parameters_noted N types E.parameters) (λ y. and_then (sized N types e [] at E.scope) (λ part. and_then (finished N types at part) (λ body.
-        and_then (ask (leaving_function lo (all_part_names ps) E.parameters body)) (λ r. and_then (note lo (function_size [] lo hi E.parameters r)) (λ own. ask (matched N types lo None own E.found)))))))
+    entering E = and_then (ask (none_left N types at (unchosen bs E.parameters))) (λ z. and_then (parameters_noted N types E.parameters) (λ y. and_then (sized N types e [] at E.scope) (λ part. and_then (finished N types at part) (λ body.
+        and_then (ask (leaving_function lo (all_part_names ps) E.parameters body)) (λ r. and_then (note lo (function_size bs lo hi E.parameters r)) (λ own. ask (matched N types lo None own E.found)))))))
 
     pub lambda_ran : 1 ≤ level places → (T : TypeScope) → Plain_patterns types home K places ps (1 + lo) → Parameters_typed N places K types ps (1 + lo) T → (scope : Scope) (st : State) (m : Done Met) → and_then (ask (all_entered N types lo ps (1 + lo) (nothing_in scope [] nothing_found))) entering st ≡ Ok m → Lambda_ran scope st m
     lambda_ran data_places T h ty scope st m q =

@@ -1,26 +1,28 @@
 -- A term and a program whose sizings meet the rules by the laws. The term is `\n -> 0..<n`, which gives an array of the size of its argument.
-use Rattle.std.proofs.Common.{◌≡◌, inl, arith, zero, suc, ℕ, false, cond, nat_eq, List, [], ◌∷◌, None, Ok, refl}
+use Rattle.std.proofs.Common.{◌≡◌, inl, inr, arith, zero, suc, ℕ, Bool, true, false, ◌||◌, cond, nat_eq, List, [], ◌∷◌, None, Ok, refl, sym, ap, subst, eqb-true}
 use Rattle.fut_scalar.specs.declared.place.BindId.{BindId}
 use Rattle.fut_ast.specs.declared.node.End.TheVariants as end
 use Rattle.fut_scalar.specs.declared.place.Place.{Place}
 use Rattle.fut_scalar.specs.declared.scalar.ScalarType.TheVariants as scalar
 use Rattle.fut_scalar.specs.declared.scalar.IntType.TheVariants as int
+use Rattle.fut_flat.specs.declared.prim.Primitive.{Primitive}
+use Rattle.fut_flat.specs.declared.prim.Primitive.TheVariants as prim
 use Rattle.fut_flat.specs.declared.prim.Ref.TheVariants as ref
-use Rattle.fut_flat.specs.Terms.{Bound_pattern, no_pattern, pattern_and, Integer, Range, Use, Strict, Lambda, Apply, no_term, term_and}
-use Rattle.fut_flat.specs.Erased.{FlatTerm}
+use Rattle.fut_flat.specs.Terms.{Size_use, Array_type, Type_use, no_arg, Size_parameter, Typed_pattern, Bound_pattern, no_pattern, pattern_and, Integer, Range, Use, Strict, Lambda, Apply, Let, no_term, term_and}
+use Rattle.fut_flat.specs.Erased.{FlatTerm, FlatPattern}
 use Rattle.fut_types.specs.declared.Kind.TheVariants as kind
 use Rattle.fut_types.specs.Types.{Sub, fun_ty}
 use Rattle.fut_typing.specs.Names.{Names}
 use Rattle.fut_typing.specs.Primitives.{array_ty, i64_ty}
-use Rattle.fut_sizes.specs.Agreeing.{Answer, then_do, agree, all_agree, kept, all_kept, leaving, type_levels, all_type_levels, of_type, of_types}
+use Rattle.fut_sizes.specs.Agreeing.{is_among, Answer, then_do, agree, all_agree, kept, all_kept, leaving, type_levels, all_type_levels, of_type, of_types}
 use Rattle.fut_sizes.specs.Applications.{all_settled, parts_settled, data_met, functions_met, all_matched, applied}
-use Rattle.fut_sizes.specs.Functions.{collected, all_collected, sizes_in, function_size, chosen_in, quantified, closed}
+use Rattle.fut_sizes.specs.Functions.{stands_among, collected, all_collected, sizes_in, function_size, chosen_in, quantified, closed}
 use Rattle.fut_sizes.specs.Matching.{filled, all_filled, read, all_read, inside as opened_inside, compared, all_compared, meet, all_meet}
 use Rattle.fut_sizes.specs.Operations.{elements_agree, slice_size, indexed, updated, operation}
 use Rattle.fut_sizes.specs.Primitives.{scalar_size, sized_type, prim_size}
 use Rattle.fut_sizes.specs.Programs.{no_state, sizing}
 use Rattle.fut_sizes.specs.Scopes.{nothing, type_of, type_in, instance, instances, used, taken, all_taken, fields_taken, bound_by}
-use Rattle.sized_types.specs.Sizes.{Bound, Size, Level, Fun, erased, all_erased, is_free, is_dim, levels, all_levels, replaced, all_replaced, has, some_has, takes, some_takes}
+use Rattle.sized_types.specs.Sizes.{Name, Bound, Size, Level, Fun, erased, all_erased, is_free, is_dim, levels, all_levels, replaced, all_replaced, has, some_has, takes, some_takes}
 use Rattle.fut_sizes.specs.Levels.{levels_within, all_levels_within}
 use Rattle.fut_sizes.specs.Sizing.{finished, is_open, some_open, matched, lacking, all_lacking, differing, all_differing, turns_from, pattern_noted, patterns_noted, fields_noted, sized, all_sized, turns_sized, condition_sized, right_sized, inner_sized}
 use Rattle.fut_sizes.specs.WrittenSizes.{part_of, changed_part, has_sizes, all_have_sizes, fields_have_sizes, with_sizes, all_with_sizes, fields_with_sizes, ascribed, coerced, coercion, parameter_size, declared}
@@ -31,11 +33,12 @@ use Rattle.fut_typing.specs.Program.{Defined, Program_typed}
 use Rattle.fut_typing.specs.Typing.{Typed}
 use Rattle.fut_sizes.specs.ProgramRules.{Program_sized}
 use Rattle.fut_sizes.specs.Applications.{Part}
-use Rattle.fut_sizes.specs.Rules.{Sized}
+use Rattle.fut_sizes.specs.Rules.{Each_hole, Each_holes, Sized}
 use Rattle.fut_sizes.specs.Scoping.{nothing_known}
 use Rattle.fut_sizes.specs.Steps.{Done}
-use Rattle.sizes_meet_rules.specs.Plain.{Plain_term, Plain_definitions, Formed_type, Formed_types}
+use Rattle.sizes_meet_rules.specs.Plain.{Head_at, Plain_term, Plain_definitions, Formed_type, Formed_types, Flat_type, Flat_types}
 use Rattle.sizes_meet_rules.proofs.Law.{sizing_meets_rules, program_sizing_meets_rules}
+use Rattle.sizes_meet_rules.proofs.Heading.{none_chosen, headed_none}
 use Rattle.sizes_meet_rules.proofs.Meeting.{then_ok}
 
 here : Place
@@ -62,7 +65,7 @@ K v = kind.Data
 
 plain : Plain_term types home K kind.Data N counts 0
 unfolding Formed_type Formed_types rank least
-plain = ((refl, tt, omega arith, tt), (tt, (((scalar.Int int.I64, refl), tt), (refl, tt))))
+plain = ((refl, tt, omega arith, tt), (tt, (((scalar.Int int.I64, refl), tt), (inl refl, tt))))
 
 use_typed : (elim (ℕ_discrete 9 9) as (λ d. Uses) [ yes e ↦ the_one 1 | no ne ↦ no_types.uses 9 ]) K types i64_ty
 use_typed = elim (ℕ_discrete 9 9) as (λ d. (elim d as (λ d. Uses) [ yes e ↦ the_one 1 | no ne ↦ no_types.uses 9 ]) K types i64_ty) [ yes e ↦ refl | no ne ↦ absurd (ne refl) ]
@@ -86,7 +89,7 @@ its_size = refl
 its_rules : (u : Done Size) → counts_size ≡ Ok u → Sized N types u.state.nodes home counts 0 nothing_known
 its_rules u e = let x = then_ok counts_part e in (sizing_meets_rules N types home K kind.Data counts 0 no_state x.first u (omega arith) plain typed x.done x.rest).0
 
--- ---- a program: `def f = \x y -> 0..<x` and `def main = \a -> f a a`
+-- ---- a program: `def f [n] (xs: [n]i64) y = 0..<n` and `def main a = f (0..<a) a`
 
 abbrev b : ℕ → BindId
 b n = record { 0 = n }
@@ -94,14 +97,20 @@ b n = record { 0 = n }
 abbrev named : ℕ → FlatTerm
 named n = Use (ref.Bound (b n)) here 0
 
+abbrev up_to : ℕ → FlatTerm
+up_to n = Strict (Range false end.Below) here (term_and (Strict (Integer 0 None) here no_term) (term_and (named n) no_term))
+
+abbrev of_n : FlatPattern
+of_n = Typed_pattern (Bound_pattern (b 1)) (Array_type (Size_use (ref.Bound (b 5))) (Type_use (ref.Scalar (scalar.Int int.I64)) no_arg))
+
 abbrev ranges : FlatTerm
-ranges = Lambda (pattern_and (Bound_pattern (b 1)) (pattern_and (Bound_pattern (b 2)) no_pattern)) (Strict (Range false end.Below) here (term_and (Strict (Integer 0 None) here no_term) (term_and (named 1) no_term)))
+ranges = Lambda (pattern_and of_n (pattern_and (Bound_pattern (b 2)) no_pattern)) (up_to 5)
 
 abbrev twice : FlatTerm
-twice = Lambda (pattern_and (Bound_pattern (b 4)) no_pattern) (Apply (Apply (named 0) (named 4)) (named 4))
+twice = Lambda (pattern_and (Bound_pattern (b 4)) no_pattern) (Apply (Apply (named 0) (up_to 4)) (named 4))
 
 abbrev f : Defined
-f = record { name = Bound_pattern (b 0); parameters = []; value = ranges }
+f = record { name = Bound_pattern (b 0); parameters = Size_parameter (b 5) ∷ []; value = ranges }
 
 abbrev main : Defined
 main = record { name = Bound_pattern (b 3); parameters = []; value = twice }
@@ -109,19 +118,42 @@ main = record { name = Bound_pattern (b 3); parameters = []; value = twice }
 abbrev program : List Defined
 program = f ∷ main ∷ []
 
--- 0 to 6 are those of f, 7 to 14 those of main
-abbrev node_types : Sub
-node_types n = cond (nat_eq n 0) (fun_ty i64_ty (fun_ty i64_ty (array_ty i64_ty))) (cond (nat_eq n 1) (fun_ty i64_ty (fun_ty i64_ty (array_ty i64_ty))) (cond (nat_eq n 12) (fun_ty i64_ty (fun_ty i64_ty (array_ty i64_ty)))
-    (cond (nat_eq n 7) (fun_ty i64_ty (array_ty i64_ty)) (cond (nat_eq n 8) (fun_ty i64_ty (array_ty i64_ty)) (cond (nat_eq n 11) (fun_ty i64_ty (array_ty i64_ty)) (cond (nat_eq n 4) (array_ty i64_ty) (cond (nat_eq n 10) (array_ty i64_ty) i64_ty)))))))
+abbrev is_any : List ℕ → ℕ → Bool
+is_any [] n = false
+is_any (x ∷ xs) n = cond (nat_eq n x) true (is_any xs n)
 
+-- 0 to 6 are those of f, 7 to 16 those of main
+abbrev node_types : Sub
+node_types n = cond (is_any (0 ∷ 1 ∷ 12 ∷ []) n) (fun_ty (array_ty i64_ty) (fun_ty i64_ty (array_ty i64_ty))) (cond (is_any (7 ∷ 8 ∷ 11 ∷ []) n) (fun_ty i64_ty (array_ty i64_ty)) (cond (is_any (2 ∷ 4 ∷ 10 ∷ 13 ∷ []) n) (array_ty i64_ty) i64_ty))
+
+-- n is at home where f takes its array
 abbrev homes : ℕ → ℕ
-homes n = cond (nat_eq n 0) 0 (cond (nat_eq n 1) 2 (cond (nat_eq n 2) 3 (cond (nat_eq n 3) 7 9)))
+homes n = cond (nat_eq n 0) 0 (cond (nat_eq n 2) 3 (cond (nat_eq n 3) 7 (cond (nat_eq n 4) 9 2)))
+
+one_among : (c x : ℕ) → is_among (x ∷ []) c ≡ true → c ≡ x
+one_among c x e = by_name (nat_eq c x) refl e
+  where
+    by_name : (k : Bool) → nat_eq c x ≡ k → cond k true false ≡ true → c ≡ x
+    by_name true f z = eqb-true c x f
+    by_name false f z = absurd (let y : false ≡ true = z in cc)
+
+one_chosen : (c x : ℕ) → stands_among (Name x ∷ []) (Name c) ≡ true → x ≡ c
+unfolding is_free
+one_chosen c x e = by_name (nat_eq x c) refl e
+  where
+    by_name : (k : Bool) → nat_eq x c ≡ k → k || false ≡ true → x ≡ c
+    by_name true f z = eqb-true x c f
+    by_name false f z = absurd (let y : false ≡ true = z in cc)
+
+head_of_n : Head_at node_types homes K kind.Data N (5 ∷ []) of_n 2
+unfolding agree all_agree kept all_kept leaving type_levels all_type_levels of_type of_types all_settled parts_settled data_met functions_met all_matched applied collected all_collected sizes_in function_size chosen_in quantified closed filled all_filled read all_read opened_inside compared all_compared meet all_meet elements_agree slice_size indexed updated operation sized_type prim_size sizing type_of type_in instance instances used taken all_taken fields_taken bound_by erased all_erased is_free is_dim levels all_levels levels_within all_levels_within replaced all_replaced has some_has takes some_takes is_open some_open matched lacking all_lacking differing all_differing turns_from pattern_noted patterns_noted fields_noted sized all_sized turns_sized condition_sized right_sized inner_sized part_of changed_part has_sizes all_have_sizes fields_have_sizes with_sizes all_with_sizes fields_with_sizes ascribed coerced coercion parameter_size declared
+head_of_n = record { apart = λ c e. subst (λ d. is_among (5 ∷ []) d ≡ false) (sym (one_among c 1 e)) refl; at_home = λ c e. ap homes (sym (one_chosen c 5 e)) }
 
 program_plain : Plain_definitions node_types homes K kind.Data N program 0
-unfolding Formed_type Formed_types rank least
+unfolding Formed_type Formed_types rank least agree all_agree kept all_kept leaving type_levels all_type_levels of_type of_types all_settled parts_settled data_met functions_met all_matched applied collected all_collected sizes_in function_size chosen_in quantified closed filled all_filled read all_read opened_inside compared all_compared meet all_meet elements_agree slice_size indexed updated operation sized_type prim_size sizing type_of type_in instance instances used taken all_taken fields_taken bound_by erased all_erased is_free is_dim levels all_levels levels_within all_levels_within replaced all_replaced has some_has takes some_takes is_open some_open matched lacking all_lacking differing all_differing turns_from pattern_noted patterns_noted fields_noted sized all_sized turns_sized condition_sized right_sized inner_sized part_of changed_part has_sizes all_have_sizes fields_have_sizes with_sizes all_with_sizes fields_with_sizes ascribed coerced coercion parameter_size declared
 program_plain = (
-  (refl, tt, (tt, (tt, tt)), ((refl, tt, omega arith, (refl, tt, omega arith, tt)), (tt, (((scalar.Int int.I64, refl), tt), (refl, tt))))),
-  ((refl, tt, (tt, tt), ((refl, tt, omega arith, tt), (omega arith, (inl refl, omega arith, (inl refl, omega arith, refl, refl), refl)))), tt),
+  (refl, tt, (tt, (tt, tt)), tt, (head_of_n, (none_chosen node_types homes K kind.Data N (Bound_pattern (b 2)) 3, tt)), (((tt, refl), tt, omega arith, (refl, tt, omega arith, tt)), (tt, (((scalar.Int int.I64, refl), tt), (inr refl, tt))))),
+  ((refl, tt, (tt, tt), tt, headed_none node_types homes K kind.Data N twice tt 8, ((refl, tt, omega arith, tt), (omega arith, (inl refl, omega arith, (tt, omega arith, refl, (tt, (((scalar.Int int.I64, refl), tt), (inl refl, tt)))), inl refl)))), tt),
 )
 
 -- a caller that gives a gets an array of a numbers
@@ -132,3 +164,57 @@ its_main = refl
 -- the sizing of the whole program meets the rules, of any typing of this kind
 program_rules : (nodes : ℕ → Size) → Program_typed N kind.Data program K node_types → sizing N node_types program ≡ Ok nodes → Program_sized N node_types nodes homes program
 program_rules nodes t e = (program_sizing_meets_rules N node_types homes K kind.Data program nodes (omega arith) program_plain t e).0
+
+-- ---- another: `def main a = let [k] (ys: [k]i64) = reverse (iota a) in 0..<k`
+
+abbrev primitive : Primitive → FlatTerm
+primitive p = Use (ref.Prim p) here 0
+
+abbrev of_k : FlatPattern
+of_k = Typed_pattern (Bound_pattern (b 7)) (Array_type (Size_use (ref.Bound (b 6))) (Type_use (ref.Scalar (scalar.Int int.I64)) no_arg))
+
+abbrev counted_down : FlatTerm
+counted_down = Lambda (pattern_and (Bound_pattern (b 4)) no_pattern) (Let (record { sizes = b 6 ∷ []; parameters = []; is_function = false; pattern = of_k }) (Apply (primitive prim.Reverse) (Apply (primitive prim.Iota) (named 4))) (up_to 6))
+
+abbrev counting : List Defined
+counting = record { name = Bound_pattern (b 3); parameters = []; value = counted_down } ∷ []
+
+abbrev count_types : Sub
+count_types n = cond (is_any (0 ∷ 1 ∷ 8 ∷ []) n) (fun_ty i64_ty (array_ty i64_ty)) (cond (nat_eq n 6) (fun_ty (array_ty i64_ty) (array_ty i64_ty)) (cond (is_any (3 ∷ 4 ∷ 5 ∷ 7 ∷ 10 ∷ []) n) (array_ty i64_ty) i64_ty))
+
+abbrev count_homes : ℕ → ℕ
+count_homes n = cond (nat_eq n 3) 0 (cond (nat_eq n 4) 2 4)
+
+k_at_home : (c : ℕ) → is_among (6 ∷ []) c ≡ true → (count_homes c ≡ 4) × (is_among (7 ∷ []) c ≡ false)
+k_at_home c e = subst (λ d. (count_homes d ≡ 4) × (is_among (7 ∷ []) d ≡ false)) (sym (one_among c 6 e)) (refl, refl)
+
+counting_plain : Plain_definitions count_types count_homes K kind.Data N counting 0
+unfolding Formed_type Formed_types Flat_type Flat_types Each_hole Each_holes rank least agree all_agree kept all_kept leaving type_levels all_type_levels of_type of_types all_settled parts_settled data_met functions_met all_matched applied collected all_collected sizes_in function_size chosen_in quantified closed filled all_filled read all_read opened_inside compared all_compared meet all_meet elements_agree slice_size indexed updated operation sized_type prim_size sizing type_of type_in instance instances used taken all_taken fields_taken bound_by erased all_erased is_free is_dim levels all_levels levels_within all_levels_within replaced all_replaced has some_has takes some_takes is_open some_open matched lacking all_lacking differing all_differing turns_from pattern_noted patterns_noted fields_noted sized all_sized turns_sized condition_sized right_sized inner_sized part_of changed_part has_sizes all_have_sizes fields_have_sizes with_sizes all_with_sizes fields_with_sizes ascribed coerced coercion parameter_size declared
+counting_plain = (
+  (
+    refl,
+    tt,
+    (tt, tt),
+    tt,
+    headed_none count_types count_homes K kind.Data N counted_down tt 1,
+    (
+      (refl, tt, omega arith, tt),
+      (
+        (tt, tt, refl, λ c e. k_at_home c e),
+        refl,
+        inl (omega arith),
+        (omega arith, (tt, omega arith, (tt, ((tt, tt), (tt, tt))), (omega arith, (inl refl, omega arith, (tt, (tt, tt)), inl refl)))),
+        (tt, (((scalar.Int int.I64, refl), tt), (inr refl, tt))),
+      ),
+    ),
+  ),
+  tt,
+)
+
+-- it gives an array of a size that nobody knows before it runs
+its_count : then_do (sizing N count_types counting) (λ s. Ok (s 0)) ≡ Ok (Fun 0 (scalar_size (scalar.Int int.I64)) (Level (Bound 0 1) (scalar_size (scalar.Int int.I64))))
+unfolding agree all_agree kept all_kept leaving type_levels all_type_levels of_type of_types all_settled parts_settled data_met functions_met all_matched applied collected all_collected sizes_in function_size chosen_in quantified closed filled all_filled read all_read opened_inside compared all_compared meet all_meet elements_agree slice_size indexed updated operation sized_type prim_size sizing type_of type_in instance instances used taken all_taken fields_taken bound_by erased all_erased is_free is_dim levels all_levels levels_within all_levels_within replaced all_replaced has some_has takes some_takes is_open some_open matched lacking all_lacking differing all_differing turns_from pattern_noted patterns_noted fields_noted sized all_sized turns_sized condition_sized right_sized inner_sized part_of changed_part has_sizes all_have_sizes fields_have_sizes with_sizes all_with_sizes fields_with_sizes ascribed coerced coercion parameter_size declared
+its_count = refl
+
+count_rules : (nodes : ℕ → Size) → Program_typed N kind.Data counting K count_types → sizing N count_types counting ≡ Ok nodes → Program_sized N count_types nodes count_homes counting
+count_rules nodes t e = (program_sizing_meets_rules N count_types count_homes K kind.Data counting nodes (omega arith) counting_plain t e).0

@@ -35,7 +35,7 @@ given_keeps δ Q m j (Bound k i) l h = one (nat_eq (suc k) j)
     one false = h
 
 -- a number is one whatever its parts
-number_parts : (h : Head) (ts us : Sizes) → is_number (Built h ts) ≡ is_number (Built h us)
+pub number_parts : (h : Head) (ts us : Sizes) → is_number (Built h ts) ≡ is_number (Built h us)
 number_parts (head.Scalar (sort.Int t)) ts us = refl
 number_parts (head.Scalar sort.Bool) ts us = refl
 number_parts head.Array ts us = refl

@@ -9,20 +9,20 @@ use Rattle.fut_types.specs.Types.{Sub, Kinds}
 use Rattle.fut_typing.specs.Names.{Names}
 use Rattle.sized_types.specs.Sizes.{Free, Const, Name, Own, Unknown, Slot, Dim, At, Bound, Variable, Size, Hole, Open, Level, Built, Fun, Sizes, no_size, size_and, placed, binding, bound, renaming, renamed, replaced, all_replaced}
 use Rattle.sized_types.specs.Standing.{stands}
-use Rattle.fut_sizes.specs.Functions.{stands_among, sizes_in, position_from, or_position, value_name, is_own, is_met}
+use Rattle.fut_sizes.specs.Functions.{stands_among, sizes_in, position_from, or_position, value_name, is_own, is_met, without}
 use Rattle.fut_sizes.specs.Rules.{Each_hole, Each_holes, Tells_size, Tells_type, Telling}
 use Rattle.fut_sizes.specs.Scopes.{i64_size, Scope, names}
 use Rattle.fut_sizes.specs.Sizing.{part_names}
 use Rattle.fut_sizes.specs.Scoping.{is_number, Context, with_positions, with_pattern, if_some}
 use Rattle.fut_sizes.specs.Suiting.{Each, Each_all, Scoped, Of_positions}
-use Rattle.sizes_meet_rules.specs.Known.{None_open, Is_const, Judged, Elsewhere}
+use Rattle.sizes_meet_rules.specs.Known.{None_open, Is_const, Elsewhere}
 use Rattle.sizes_meet_rules.proofs.Settling.{Any_variable}
 use Rattle.sizes_meet_rules.specs.Plain.{Plain_pattern}
-use Rattle.sizes_meet_rules.proofs.Arrows.{Is_value, value_place, chosen, frame, position, May_stand, standing_own, frame_value, frame_met}
-use Rattle.sizes_meet_rules.proofs.Listing.{Some_at, found_at, among_found, all_nth, sizes_are, sizes_listed}
+use Rattle.sizes_meet_rules.proofs.Arrows.{Is_value, value_place, Headed, value_apart, chosen, chosen_here, frame, position, May_stand, standing_own, frame_value, frame_met}
+use Rattle.sizes_meet_rules.proofs.Listing.{Some_at, found_at, among_found, all_nth, sizes_are, sizes_listed, without_or}
 use Rattle.sizes_meet_rules.proofs.Meeting.{Met_in, With_met, met_wider}
-use Rattle.sizes_meet_rules.proofs.Naming.{value_home, Named_by, Stands_there, named_there, named_among, judged_with}
-use Rattle.sizes_meet_rules.proofs.Taking.{Has_parts, bound_scope, Nodes}
+use Rattle.sizes_meet_rules.proofs.Naming.{value_home, Named_by, No_name_of, Stands_there, known_same, general_same, named_there, named_among, Judged_but, judged_with}
+use Rattle.sizes_meet_rules.proofs.Taking.{Has_parts, bound_scope, Nodes, names_home}
 use Rattle.fut_flat.specs.Numbers.{pattern_numbers}
 use Rattle.fut_sizes.specs.Agreeing.{is_among}
 use Rattle.sizes_meet_rules.proofs.Replacing.{each_as, each_both, each_back, hole_as}
@@ -84,18 +84,18 @@ met_unknown lo hi In unmet t x e = by_place (found_at (sizes_in (is_met lo hi) t
 pub none_met : (In : Free → Type 0) (x : Free) → stands_among [] x ≡ true → Unknown_met In x
 none_met In x e = absurd (let z : false ≡ true = e in cc)
 
-number_closed : (u : Size) → ◌≡◌ {A = Option Size} (Some i64_size) (Some u) → Each_hole Any_variable u
+pub number_closed : (u : Size) → ◌≡◌ {A = Option Size} (Some i64_size) (Some u) → Each_hole Any_variable u
 unfolding Each_hole Each_holes
 number_closed u z = subst (Each_hole Any_variable) (let v : i64_size ≡ u = cc in v) tt
 
 module _ (N : Names) (types : Sub) (home : ℕ → ℕ) (K : Kinds) (places : Kind) (lo at hi q : ℕ) (p : FlatPattern) (plain : Plain_pattern types home K places p q) (In : Free → Type 0) (Vars : Variable → Type 0) (E : Elsewhere N types home q hi In) (l0 : lo < q) (l2 : q < at) (l2' : q + pattern_numbers p ≤ at) (l3 : at ≤ hi) (parts : List ℕ) (among : (b : ℕ) → is_among (part_names p) b ≡ true → is_among parts b ≡ true)
-    (own : Size) (own_is : Each (Scoped (λ x. (is_own [] q x ≡ true) ⊎ (In x ⊎ Is_const x))) 0 own) (own_stands : Each (Scoped (λ x. stands own x ≡ true)) 0 own) where
+    (bs : List ℕ) (own : Size) (own_is : Each (Scoped (λ x. (is_own bs q x ≡ true) ⊎ (In x ⊎ Is_const x))) 0 own) (own_stands : Each (Scoped (λ x. stands own x ≡ true)) 0 own) (head : Headed home bs p q own) where
   -- what is known behind the parameter
   abbrev pub Entered_in : Free → Type 0
   Entered_in d = In d ⊎ ((stands own d ≡ true) ⊎ Named_by N p own d)
 
   abbrev pub May : List Free → Free → Type 0
-  May met x = May_stand N types home K places lo at hi q p plain In E l2 l3 own own_is own_stands met x
+  May met x = May_stand N types home K places lo at hi q p plain In E l2 l3 bs own own_is own_stands head met x
 
   -- not the name of a part of an argument
   abbrev pub No_part : Free → Type 0
@@ -134,16 +134,16 @@ module _ (N : Names) (types : Sub) (home : ℕ → ℕ) (K : Kinds) (places : Ki
   known_no_value x (Some b) h (inr c) v = subst Is_const v c
   known_no_value x None h o v = v
 
-  own_no_value : (x : Free) (r : Option ℕ) → is_own [] q x ≡ true → Is_value r x → ⊥
-  own_no_value x (Some b) o v = let z : false ≡ true = ap (is_own [] q) (sym v) ∙ o in cc
-  own_no_value x None o v = v
+  own_no_value : (x : Free) (r : Option ℕ) → ((b : ℕ) → r ≡ Some b → is_among bs b ≡ false) → is_own bs q x ≡ true → Is_value r x → ⊥
+  own_no_value x (Some b) apart o v = let z : false ≡ true = sym (apart b refl) ∙ ap (is_own bs q) (sym v) ∙ o in cc
+  own_no_value x None apart o v = v
 
   pub no_value : (x : Free) → is_number own ≡ false → Entered_in x → Is_value (value_name p) x → ⊥
   no_value x e (inl i) v = known_no_value x (value_name p) (value_home types home K places p q plain) (inl i) v
-  no_value x e (inr (inl s)) v = by_own (standing_own N types home K places lo at hi q p plain In E l2 l3 own own_is own_stands x s)
+  no_value x e (inr (inl s)) v = by_own (standing_own N types home K places lo at hi q p plain In E l2 l3 bs own own_is own_stands head x s)
     where
-      by_own : (is_own [] q x ≡ true) ⊎ (In x ⊎ Is_const x) → ⊥
-      by_own (inl o) = own_no_value x (value_name p) o v
+      by_own : (is_own bs q x ≡ true) ⊎ (In x ⊎ Is_const x) → ⊥
+      by_own (inl o) = own_no_value x (value_name p) (value_apart N types home K places lo at hi q p plain In E l2 l3 bs own own_is own_stands head) o v
       by_own (inr w) = known_no_value x (value_name p) (value_home types home K places p q plain) w v
   no_value x e (inr (inr n)) v = let z : true ≡ false = sym (named_number p x n v) ∙ e in cc
 
@@ -179,17 +179,12 @@ module _ (N : Names) (types : Sub) (home : ℕ → ℕ) (K : Kinds) (places : Ki
 
   -- ---- what the rules know behind the parameter
 
-  not_named : (c : ℕ) → is_among (names p) c ≡ false → position N types home K places lo at hi q p plain In E l2 l3 own own_is own_stands (Name c) ≡ None
-  not_named c n = by_chosen (position_from 0 (sizes_in (is_own [] q) own) (Name c)) refl
+  -- a name that the parameter neither binds nor chooses
+  not_named : (c : ℕ) → is_among (names p) c ≡ false → position_from 0 (sizes_in (is_own bs q) own) (Name c) ≡ None → position N types home K places lo at hi q p plain In E l2 l3 bs own own_is own_stands head (Name c) ≡ None
+  not_named c n e = ap (λ o. or_position o (value_place (value_name p) q (length (sizes_in (is_own bs q) own)) (Name c))) e ∙ by_value (value_name p) (other p q plain n)
     where
-      nowhere : (i : ℕ) → position_from 0 (sizes_in (is_own [] q) own) (Name c) ≡ Some i → ⊥
-      nowhere i e = by_place (found_at (sizes_in (is_own [] q) own) 0 (Name c) i e)
-        where
-          by_place : Some_at (sizes_in (is_own [] q) own) 0 (Name c) i → ⊥
-          by_place (j, a, b, f) = let z : false ≡ true = ap (is_own [] q) (sym f) ∙ all_nth (is_own [] q) (sizes_in (is_own [] q) own) (sizes_are (is_own [] q) own) j b in cc
-
-      by_value : (r : Option ℕ) → ((b : ℕ) → r ≡ Some b → b ≡ c → ⊥) → value_place r q (length (sizes_in (is_own [] q) own)) (Name c) ≡ None
-      by_value (Some y) h = ap (λ b. cond b (Some (length (sizes_in (is_own [] q) own))) None) (ne_eqb y c (h y refl))
+      by_value : (r : Option ℕ) → ((b : ℕ) → r ≡ Some b → b ≡ c → ⊥) → value_place r q (length (sizes_in (is_own bs q) own)) (Name c) ≡ None
+      by_value (Some y) h = ap (λ b. cond b (Some (length (sizes_in (is_own bs q) own))) None) (ne_eqb y c (h y refl))
       by_value None h = refl
 
       other : (r : FlatPattern) (m : ℕ) → Plain_pattern types home K places r m → is_among (names r) c ≡ false → (b : ℕ) → value_name r ≡ Some b → b ≡ c → ⊥
@@ -199,48 +194,84 @@ module _ (N : Names) (types : Sub) (home : ℕ → ℕ) (K : Kinds) (places : Ki
       other (Record_pattern fs ps) m h n b e z = let v : None ≡ Some b = e in cc
       other (Typed_pattern r t) m h n b e z = other r m h.1 n b e z
 
-      by_chosen : (o : Option ℕ) → position_from 0 (sizes_in (is_own [] q) own) (Name c) ≡ o → or_position (position_from 0 (sizes_in (is_own [] q) own) (Name c)) (value_place (value_name p) q (length (sizes_in (is_own [] q) own)) (Name c)) ≡ None
-      by_chosen None e = ap (λ o. or_position o (value_place (value_name p) q (length (sizes_in (is_own [] q) own)) (Name c))) e ∙ by_value (value_name p) (other p q plain n)
-      by_chosen (Some i) e = absurd (nowhere i e)
+  -- and one that it chooses
+  chosen_named : (c i : ℕ) → position_from 0 (sizes_in (is_own bs q) own) (Name c) ≡ Some i → position N types home K places lo at hi q p plain In E l2 l3 bs own own_is own_stands head (Name c) ≡ Some i
+  chosen_named c i e = ap (λ o. or_position o (value_place (value_name p) q (length (sizes_in (is_own bs q) own)) (Name c))) e
 
-  owned_no_name : (d : Free) → stands own d ≡ true → (b : ℕ) → d ≡ Name b → (q ≤ home b) × (home b < q + pattern_numbers p) → ⊥
-  owned_no_name d s b e h = by_own (standing_own N types home K places lo at hi q p plain In E l2 l3 own own_is own_stands d s)
+  owned_no_name : (d : Free) → stands own d ≡ true → No_name_of (names p) d
+  owned_no_name d s b e = by_among (is_among (names p) b) refl
     where
-      by_own : (is_own [] q d ≡ true) ⊎ (In d ⊎ Is_const d) → ⊥
-      by_own (inl o) = let z : false ≡ true = ap (is_own [] q) (sym e) ∙ o in cc
-      by_own (inr (inl i)) = let x = h.0 in let y = h.1 in E.outside (Name b) (subst In e i) (x, omega (arith, y, l2', l3))
-      by_own (inr (inr c)) = subst Is_const e c
+      at_home : is_among (names p) b ≡ true → (q ≤ home b) × (home b < q + pattern_numbers p)
+      at_home f = names_home types home K places p q plain b f
 
-  pub entered_judged : Has_parts N p own → Each_hole Any_variable own → (s : ℕ → Size) (scope : Scope) (G : Context) → Judged In Vars scope G → Nodes N p q own s → Judged Entered_in Vars (bound_scope N p own scope) (with_pattern s p q (with_positions (λ d. position N types home K places lo at hi q p plain In E l2 l3 own own_is own_stands d) G))
-  entered_judged fits closed s scope G J nodes = judged_with N types K places Entered_in Vars home s In Vars p q plain own fits nodes scope
-      (with_positions (λ d. position N types home K places lo at hi q p plain In E l2 l3 own own_is own_stands d) G) (λ b i h. let x = h.0 in let y = h.1 in E.outside (Name b) i (omega (arith, x), omega (arith, y, l2', l3))) split (λ v i. inl i) known none_open closed J.finds J.finds_types
+      by_own : is_among (names p) b ≡ true → (is_own bs q d ≡ true) ⊎ (In d ⊎ Is_const d) → ⊥
+      by_own f (inl o) = let z : false ≡ true = sym (head.apart b f) ∙ ap (is_own bs q) (sym e) ∙ o in cc
+      by_own f (inr (inl i)) = let h = at_home f in let x = h.0 in let y = h.1 in E.outside (Name b) (subst In e i) (x, omega (arith, y, l2', l3))
+      by_own f (inr (inr c)) = subst Is_const e c
+
+      by_among : (k : Bool) → is_among (names p) b ≡ k → is_among (names p) b ≡ false
+      by_among true f = absurd (by_own f (standing_own N types home K places lo at hi q p plain In E l2 l3 bs own own_is own_stands head d s))
+      by_among false f = f
+
+  -- the names that no parameter has chosen yet
+  abbrev pub Left_names : List ℕ
+  Left_names = without (sizes_in (is_own bs q) own) bs
+
+  abbrev Known_there : Context → ℕ → Bool → Size → Type 0
+  Known_there G b g u = cond g (G.schemes b) (if_some (position N types home K places lo at hi q p plain In E l2 l3 bs own own_is own_stands head (Name b)) (G.sizes b)) ≡ Some u
+
+  pub entered_judged : Has_parts N p own → Each_hole Any_variable own → (s : ℕ → Size) (scope : Scope) (G : Context) → ((b : ℕ) → is_among bs b ≡ true → scope b ≡ Some (record { size = i64_size; is_general = false })) → Judged_but bs In Vars scope G → Nodes N p q own s
+      → Judged_but Left_names Entered_in Vars (bound_scope N p own scope) (with_pattern s p q (with_positions (λ d. position N types home K places lo at hi q p plain In E l2 l3 bs own own_is own_stands head d) G))
+  entered_judged fits closed s scope G heads J nodes = judged_with N types K places Entered_in Vars home s Left_names In Vars p q plain own fits nodes scope
+      (with_positions (λ d. position N types home K places lo at hi q p plain In E l2 l3 bs own own_is own_stands head d) G) (λ b i h. let x = h.0 in let y = h.1 in E.outside (Name b) i (omega (arith, x), omega (arith, y, l2', l3))) split (λ v i. inl i) known none_open closed J.finds J.finds_types
     where
-      split : (d : Free) → Entered_in d → In d ⊎ (Stands_there home q (q + pattern_numbers p) own d ⊎ (Named_by N p own d ⊎ Is_const d))
+      split : (d : Free) → Entered_in d → In d ⊎ (Stands_there (names p) own d ⊎ (Named_by N p own d ⊎ Is_const d))
       split d (inl i) = inl i
-      split d (inr (inl s)) = inr (inl (s, λ b z w. owned_no_name d s b z w))
+      split d (inr (inl s)) = inr (inl (s, owned_no_name d s))
       split d (inr (inr n)) = inr (inr (inl n))
 
-      sizes : (b : ℕ) (u : Size) → is_among (names p) b ≡ false → scope b ≡ Some (record { size = u; is_general = false }) → if_some (position N types home K places lo at hi q p plain In E l2 l3 own own_is own_stands (Name b)) (G.sizes b) ≡ Some u
-      sizes b u n z = ap (λ o. if_some o (G.sizes b)) (not_named b n) ∙ J.sizes b u z
+      -- what the parameter chooses is a number
+      chosen_known : (b : ℕ) (g : Bool) (u : Size) (i : ℕ) → position_from 0 (sizes_in (is_own bs q) own) (Name b) ≡ Some i → scope b ≡ Some (record { size = u; is_general = g }) → Known_there G b g u
+      chosen_known b true u i e z = absurd (let y : false ≡ true = general_same i64_size u (sym (heads b (chosen_here N types home K places lo at hi q p plain In E l2 l3 bs own own_is own_stands head (Name b) i e)) ∙ z) in cc)
+      chosen_known b false u i e z = ap (λ o. if_some o (G.sizes b)) (chosen_named b i e) ∙ ap Some (known_same i64_size u (sym (heads b (chosen_here N types home K places lo at hi q p plain In E l2 l3 bs own own_is own_stands head (Name b) i e)) ∙ z))
 
-      known : (b : ℕ) (g : Bool) (u : Size) → is_among (names p) b ≡ false → scope b ≡ Some (record { size = u; is_general = g }) → cond g (G.schemes b) (if_some (position N types home K places lo at hi q p plain In E l2 l3 own own_is own_stands (Name b)) (G.sizes b)) ≡ Some u
-      known b true u n z = J.schemes b u z
-      known b false u n z = sizes b u n z
+      not_chosen_known : (b : ℕ) (g : Bool) (u : Size) → is_among bs b ≡ false → is_among (names p) b ≡ false → position_from 0 (sizes_in (is_own bs q) own) (Name b) ≡ None → scope b ≡ Some (record { size = u; is_general = g }) → Known_there G b g u
+      not_chosen_known b true u k n e z = J.schemes b u k z
+      not_chosen_known b false u k n e z = ap (λ o. if_some o (G.sizes b)) (not_named b n e) ∙ J.sizes b u k z
 
-      none_open : None_open (with_positions (λ d. position N types home K places lo at hi q p plain In E l2 l3 own own_is own_stands d) G)
-      none_open = (λ b u z. by_position (position N types home K places lo at hi q p plain In E l2 l3 own own_is own_stands (Name b)) b u z, J.none_open.1)
+      none_there : (b : ℕ) → stands_among (sizes_in (is_own bs q) own) (Name b) ≡ true → position_from 0 (sizes_in (is_own bs q) own) (Name b) ≡ None → ⊥
+      none_there b s e = let w = among_found (sizes_in (is_own bs q) own) 0 (Name b) s in let z : Some w.0 ≡ None = sym w.1 ∙ e in cc
+
+      -- no name of the head that is left
+      no_head : (b : ℕ) → is_among Left_names b ≡ false → position_from 0 (sizes_in (is_own bs q) own) (Name b) ≡ None → (c : Bool) → is_among bs b ≡ c → is_among bs b ≡ false
+      no_head b k e false f = f
+      no_head b k e true f = absurd (by_choice (without_or (sizes_in (is_own bs q) own) bs b f))
+        where
+          by_choice : (stands_among (sizes_in (is_own bs q) own) (Name b) ≡ true) ⊎ (is_among Left_names b ≡ true) → ⊥
+          by_choice (inl y) = none_there b y e
+          by_choice (inr y) = let z : true ≡ false = sym y ∙ k in cc
+
+      known : (b : ℕ) (g : Bool) (u : Size) → is_among Left_names b ≡ false → is_among (names p) b ≡ false → scope b ≡ Some (record { size = u; is_general = g }) → Known_there G b g u
+      known b g u k n z = by_position (position_from 0 (sizes_in (is_own bs q) own) (Name b)) refl
+        where
+          by_position : (o : Option ℕ) → position_from 0 (sizes_in (is_own bs q) own) (Name b) ≡ o → Known_there G b g u
+          by_position (Some i) e = chosen_known b g u i e z
+          by_position None e = not_chosen_known b g u (no_head b k e (is_among bs b) refl) n e z
+
+      none_open : None_open (with_positions (λ d. position N types home K places lo at hi q p plain In E l2 l3 bs own own_is own_stands head d) G)
+      none_open = (λ b u z. by_position (position N types home K places lo at hi q p plain In E l2 l3 bs own own_is own_stands head (Name b)) b u z, J.none_open.1)
         where
           by_position : (o : Option ℕ) (b : ℕ) (u : Size) → if_some o (G.sizes b) ≡ Some u → Each_hole Any_variable u
           by_position (Some i) b u z = number_closed u z
           by_position None b u z = J.none_open.0 b u z
 
   -- ---- what a function of data tells
-  module _ (met : List Free) (mets : (x : Free) → stands_among met x ≡ true → Unknown_met In x) (s : ℕ → Size) (scope : Scope) (G : Context) (J : Judged In Vars scope G) (here : s q ≡ own) where
+  module _ (met : List Free) (mets : (x : Free) → stands_among met x ≡ true → Unknown_met In x) (s : ℕ → Size) (scope : Scope) (G : Context) (J : Judged_but bs In Vars scope G) (here : s q ≡ own) where
     abbrev many : ℕ
-    many = length (chosen N types home K places lo at hi q p plain In E l2 l3 own own_is own_stands)
+    many = length (chosen N types home K places lo at hi q p plain In E l2 l3 bs own own_is own_stands head)
 
     abbrev place : Free → Option ℕ
-    place x = frame N types home K places lo at hi q p plain In E l2 l3 own own_is own_stands met x
+    place x = frame N types home K places lo at hi q p plain In E l2 l3 bs own own_is own_stands head met x
 
     tells_by : (x : Free) → (stands (s q) x ≡ true) ⊎ (G.finds x ≡ true) → Tells_size N types s home q G x
     tells_by (Const c) h = tt
@@ -263,9 +294,9 @@ module _ (N : Names) (types : Sub) (home : ℕ → ℕ) (K : Kinds) (places : Ki
     tells_one : (x : Free) → May met x → ((m : ℕ) → place x ≡ Some m → m < many) → Tells_size N types s home q G x
     tells_one x (inl i) low = tells_known x (J.finds x i)
     tells_one x (inr (inl y)) low = tells_by x (inl (ap (λ u. stands u x) here ∙ y))
-    tells_one x (inr (inr (inl v))) low = absurd (let z = low many (frame_value N types home K places lo at hi q p plain In E l2 l3 own own_is own_stands met mets x v) in omega (arith, z))
+    tells_one x (inr (inr (inl v))) low = absurd (let z = low many (frame_value N types home K places lo at hi q p plain In E l2 l3 bs own own_is own_stands head met mets x v) in omega (arith, z))
     tells_one x (inr (inr (inr (inl c)))) low = tells_const x c
-    tells_one x (inr (inr (inr (inr y)))) low = absurd (let w = frame_met N types home K places lo at hi q p plain In E l2 l3 own own_is own_stands met mets x y in let z = low (suc many + w.0) w.1 in omega (arith, z))
+    tells_one x (inr (inr (inr (inr y)))) low = absurd (let w = frame_met N types home K places lo at hi q p plain In E l2 l3 bs own own_is own_stands head met mets x y in let z = low (suc many + w.0) w.1 in omega (arith, z))
 
     any_dim : (j : ℕ) (d : Dim) → Scoped (May met) j d → Unit {0}
     any_dim j d h = tt
@@ -288,7 +319,7 @@ module _ (N : Names) (types : Sub) (home : ℕ → ℕ) (K : Kinds) (places : Ki
           by_left : ((j : ℕ) × (ρ x ≡ Unknown lo j)) ⊎ ((ρ x ≡ x) × No_part x) → Tells_size N types s home q G x
           by_left (inl (j, e)) =
               let y = listed (ap (is_met lo hi) e ∙ is_met_here lo j (omega arith) (omega (arith, l0, l2, l3))) in
-              let w = frame_met N types home K places lo at hi q p plain In E l2 l3 own own_is own_stands met mets (ρ x) y in
+              let w = frame_met N types home K places lo at hi q p plain In E l2 l3 bs own own_is own_stands head met mets (ρ x) y in
               absurd (let z = low (suc many + w.0) w.1 in omega (arith, z))
           by_left (inr (e, bare)) = by_size o e bare
 

@@ -1,9 +1,9 @@
 -- A let that is written as a function, whose type has no type variables: its name is general, and each use has its type.
-use Rattle.std.proofs.Common.{◌≡◌, ◌⊎◌, ℕ, ◌+◌, [], Bool, true, false, ◌||◌, cond, nat_eq, Option, Some, None, refl, sym, ap, ◌∙◌, subst, inl, inr, eq-eqb}
+use Rattle.std.proofs.Common.{◌≡◌, ◌⊎◌, ℕ, ◌+◌, List, [], Bool, true, false, ◌||◌, cond, nat_eq, Option, Some, None, refl, sym, ap, ◌∙◌, subst, inl, inr, eq-eqb}
 use Rattle.std.proofs.lemmas.Bool.{ne_eqb}
 use native.Mathlib.Decide.{ℕ_discrete}
 use Rattle.fut_scalar.specs.declared.place.BindId.{BindId}
-use Rattle.fut_flat.specs.Terms.{Bound_pattern, Lambda, pattern_and}
+use Rattle.fut_flat.specs.Terms.{Parameter, Bound_pattern, Lambda, pattern_and}
 use Rattle.fut_flat.specs.Erased.{FlatTerm}
 use Rattle.fut_types.specs.declared.Head.{Head}
 use Rattle.fut_types.specs.declared.Head.TheVariants as head
@@ -130,8 +130,8 @@ module _ (N : Names) (types : Sub) (home : ℕ → ℕ) where
   lambda_arrow K places a v n T i t = absurd i
 
   -- a let that is sized generalises its function, whose own variables are none
-  pub generalised : (x : BindId) (v : FlatTerm) (lo mid at hi : ℕ) (s : ℕ → Size) (G : Context) → Is_lambda v → None_open G → s (1 + lo) ≡ s mid → Let_sized N types s home (record { sizes = []; parameters = []; is_function = true; pattern = Bound_pattern x }) lo mid at hi → Generalised N types s home (Bound_pattern x) v lo mid at hi G
-  generalised x v lo mid at hi s G i o e L = record {
+  pub generalised : (hd : List (Parameter BindId)) (x : BindId) (v : FlatTerm) (lo mid at hi : ℕ) (s : ℕ → Size) (G : Context) → Is_lambda v → None_open G → s (1 + lo) ≡ s mid → Let_sized N types s home (record { sizes = []; parameters = hd; is_function = true; pattern = Bound_pattern x }) lo mid at hi → Generalised N types s home (Bound_pattern x) v lo mid at hi G
+  generalised hd x v lo mid at hi s G i o e L = record {
     form = general_form x v s i;
     new = λ a. false;
     type = e;

@@ -1,10 +1,12 @@
 -- The sizes of some property that stand in a sized type, in a list: each stands in it once.
-use Rattle.std.proofs.Common.{◌≡◌, ℕ, zero, suc, ◌+◌, ◌<◌, List, [], ◌∷◌, ◌++◌, length, Bool, true, false, not, ◌||◌, ◌&&◌, cond, Some, None, refl, sym, ap, ◌∙◌, subst, arith}
-use Rattle.sized_types.specs.Sizes.{Free, Const, Dim, At, Bound, Size, Hole, Open, Level, Built, Fun, Sizes, no_size, size_and, is_free}
-use Rattle.fut_sizes.specs.Functions.{stands_among, with_free, collected, all_collected, sizes_in, position_from}
-use Rattle.fut_sizes.specs.Suiting.{Each, Each_all}
+use Rattle.std.proofs.Common.{◌≡◌, ◌⊎◌, ℕ, zero, suc, ◌+◌, ◌<◌, List, [], ◌∷◌, ◌++◌, length, Bool, true, false, not, ◌||◌, ◌&&◌, cond, nat_eq, Some, None, refl, sym, ap, ◌∙◌, subst, arith, inl, inr, eqb-true}
+use Rattle.sized_types.specs.Sizes.{Free, Const, Name, Dim, At, Bound, Size, Hole, Open, Level, Built, Fun, Sizes, no_size, size_and, is_free}
+use Rattle.fut_sizes.specs.Functions.{stands_among, with_free, collected, all_collected, sizes_in, position_from, without}
+use Rattle.fut_sizes.specs.Suiting.{Each, Each_all, Scoped}
 use Rattle.sizes_meet_rules.proofs.Replacing.{free_same, same_free, each_as}
+use Rattle.fut_sizes.specs.Agreeing.{is_among}
 use Rattle.sizes_meet_rules.proofs.Naming.{or_first, or_later}
+use Rattle.sizes_meet_rules.proofs.Taking.{among_later}
 
 unfoldable pub nth : List Free → ℕ → Free
 nth [] i = Const 0
@@ -172,3 +174,83 @@ module _ (q : Free → Bool) where
   pub sizes_listed : (t : Size) → Each (λ j d. (x : Free) → d ≡ At x → q x ≡ true → stands_among (sizes_in q t) x ≡ true) 0 t
   unfolding sizes_in
   sizes_listed t = each_listed t 0 []
+
+-- what is listed has the property
+pub listed_is : (q : Free → Bool) (t : Size) (x : Free) → stands_among (sizes_in q t) x ≡ true → q x ≡ true
+listed_is q t x e = by_place (found_at (sizes_in q t) 0 x w.0 w.1)
+  where
+    w : (i : ℕ) × (position_from 0 (sizes_in q t) x ≡ Some i)
+    w = among_found (sizes_in q t) 0 x e
+
+    by_place : Some_at (sizes_in q t) 0 x w.0 → q x ≡ true
+    by_place (j, a, b, c) = ap q (sym c) ∙ all_nth q (sizes_in q t) (sizes_are q t) j b
+
+-- what is listed has what all sizes of the type have
+module _ (P : Free → Type 0) (q : Free → Bool) where
+  abbrev All_listed : List Free → Type 0
+  All_listed ds = (x : Free) → stands_among ds x ≡ true → P x
+
+  one_has : (d : Dim) (j : ℕ) (ds : List Free) → Scoped P j d → All_listed ds → All_listed (with_free q d ds)
+  one_has (Bound k i) j ds h a = a
+  one_has (At y) j ds h a = by_kept (q y && not (stands_among ds y))
+    where
+      by_last : (x : Free) (b : Bool) → stands_among ds x ≡ b → b || stands_among (y ∷ []) x ≡ true → P x
+      by_last x true e z = a x e
+      by_last x false e z = by_size (is_free y x) refl z
+        where
+          by_size : (c : Bool) → is_free y x ≡ c → c || false ≡ true → P x
+          by_size true f w = subst P (free_same y x f) h
+          by_size false f w = absurd (let v : false ≡ true = w in cc)
+
+      by_kept : (b : Bool) → All_listed (cond b (ds ++ y ∷ []) ds)
+      by_kept false = a
+      by_kept true = λ x e. by_last x (stands_among ds x) refl (sym (among_behind ds (y ∷ []) x) ∙ e)
+
+  mutual
+    unfolding collected all_collected Each Each_all
+
+    all_has : (t : Size) (j : ℕ) (ds : List Free) → Each (Scoped P) j t → All_listed ds → All_listed (collected q t ds)
+    all_has (Hole v) j ds h a = a
+    all_has (Open n v u) j ds h a = a
+    all_has (Level d t) j ds h a = all_has t j (with_free q d ds) h.1 (one_has d j ds h.0 a)
+    all_has (Built k ts) j ds h a = parts_have ts j ds h a
+    all_has (Fun k p r) j ds h a = all_has r (suc j) (collected q p ds) h.1 (all_has p (suc j) ds h.0 a)
+
+    parts_have : (ts : Sizes) (j : ℕ) (ds : List Free) → Each_all (Scoped P) j ts → All_listed ds → All_listed (all_collected q ts ds)
+    parts_have no_size j ds h a = a
+    parts_have (size_and t ts) j ds h a = parts_have ts j (collected q t ds) h.1 (all_has t j ds h.0 a)
+
+  pub listed_has : (t : Size) → Each (Scoped P) 0 t → (x : Free) → stands_among (sizes_in q t) x ≡ true → P x
+  unfolding sizes_in
+  listed_has t h = all_has t 0 [] h (λ x e. absurd (let z : false ≡ true = e in cc))
+
+-- ---- names without those that are chosen
+
+abbrev Chosen_or : List Free → ℕ → List ℕ → ℕ → Bool → Type 0
+Chosen_or ds x xs b c = (stands_among ds (Name b) ≡ true) ⊎ (is_among (cond c (without ds xs) (x ∷ without ds xs)) b ≡ true)
+
+pub without_or : (ds : List Free) (bs : List ℕ) (b : ℕ) → is_among bs b ≡ true → (stands_among ds (Name b) ≡ true) ⊎ (is_among (without ds bs) b ≡ true)
+without_or ds [] b e = absurd (let z : false ≡ true = e in cc)
+without_or ds (x ∷ xs) b e = by_choice (stands_among ds (Name x)) refl (nat_eq b x) refl e (without_or ds xs b)
+  where
+    later : (c : Bool) → (stands_among ds (Name b) ≡ true) ⊎ (is_among (without ds xs) b ≡ true) → Chosen_or ds x xs b c
+    later c (inl y) = inl y
+    later true (inr y) = inr y
+    later false (inr y) = inr (among_later (x ∷ []) (without ds xs) b y)
+
+    by_choice : (c : Bool) → stands_among ds (Name x) ≡ c → (k : Bool) → nat_eq b x ≡ k → cond k true (is_among xs b) ≡ true → (is_among xs b ≡ true → (stands_among ds (Name b) ≡ true) ⊎ (is_among (without ds xs) b ≡ true)) → Chosen_or ds x xs b c
+    by_choice c f false g e go = later c (go e)
+    by_choice true f true g e go = inl (ap (λ y. stands_among ds (Name y)) (eqb-true b x g) ∙ f)
+    by_choice false f true g e go = inr (ap (λ k. cond k true (is_among (without ds xs) b)) g)
+
+pub without_among : (ds : List Free) (bs : List ℕ) (b : ℕ) → is_among (without ds bs) b ≡ true → is_among bs b ≡ true
+without_among ds [] b e = e
+without_among ds (x ∷ xs) b e = by_choice (stands_among ds (Name x)) (without_among ds xs b) e
+  where
+    by_name : (k : Bool) → (is_among (without ds xs) b ≡ true → is_among xs b ≡ true) → cond k true (is_among (without ds xs) b) ≡ true → cond k true (is_among xs b) ≡ true
+    by_name true go e = refl
+    by_name false go e = go e
+
+    by_choice : (c : Bool) → (is_among (without ds xs) b ≡ true → is_among xs b ≡ true) → is_among (cond c (without ds xs) (x ∷ without ds xs)) b ≡ true → cond (nat_eq b x) true (is_among xs b) ≡ true
+    by_choice true go e = among_later (x ∷ []) xs b (go e)
+    by_choice false go e = by_name (nat_eq b x) go e

@@ -1,5 +1,5 @@
 -- Loops: what is counted or gone over is sized once, the body once a turn; the last turn's sizing meets the rules.
-use Rattle.std.proofs.Common.{◌≡◌, ◌⊎◌, ℕ, suc, ◌+◌, ◌<◌, ◌≤◌, List, [], ◌++◌, Bool, true, false, cond, Some, Ok, refl, sym, ap, ◌∙◌, subst, arith, inl, inr}
+use Rattle.std.proofs.Common.{◌≡◌, ◌⊎◌, ℕ, suc, ◌+◌, ◌<◌, ◌≤◌, List, [], ◌∷◌, ◌++◌, Bool, true, false, cond, Some, Ok, refl, sym, ap, ◌∙◌, subst, arith, inl, inr}
 use Rattle.fut_scalar.specs.declared.place.BindId.{BindId}
 use Rattle.fut_flat.specs.Numbers.{pattern_numbers, numbers, turn_numbers}
 use Rattle.fut_flat.specs.Terms.{Bound_pattern, Counted, Over, While}
@@ -11,30 +11,33 @@ use Rattle.fut_types.specs.Types.{Var, Made, none, more, Sub, Kinds, HasKind, ra
 use Rattle.fut_typing.specs.Names.{Names}
 use Rattle.fut_typing.specs.Patterns.{Pattern_typed, with_pattern as typed_with}
 use Rattle.fut_typing.specs.Primitives.{array_ty}
-use Rattle.fut_typing.specs.Scopes.{Scope as TypeScope, the_one}
+use Rattle.fut_typing.specs.Scopes.{Scope as TypeScope, the_one, with_sizes as typed_with_sizes}
 use Rattle.fut_typing.specs.Typing.{with_turns, Typed, Turns_typed}
-use Rattle.sized_types.specs.Sizes.{Free, Const, Name, Own, Unknown, Slot, Variable, Inferred, Written, Size, Hole, Open, Level, Built, Fun, no_size, size_and, erased, all_erased, levels, renamed}
+use Rattle.sized_types.specs.Sizes.{Free, Name, Variable, Inferred, Written, Size, Hole, Open, Level, Built, Fun, no_size, size_and, erased, all_erased, levels, renamed}
+use Rattle.sized_types.specs.Standing.{stands}
 use Rattle.fut_sizes.specs.Agreeing.{Answer, is_among, then_do}
 use Rattle.fut_sizes.specs.Applications.{Part, whole}
 use Rattle.fut_sizes.specs.Functions.{is_slot}
 use Rattle.fut_sizes.specs.Matching.{Found, nothing_found, counted}
 use Rattle.fut_sizes.specs.Rules.{Each_hole, Each_holes, Away, taken_by, Pattern_takes, Loops, counter, Sized, Turns_sized}
 use Rattle.fut_sizes.specs.Scopes.{Scope, with_name, names, Taken, as_taken, bound_at, bound_by}
-use Rattle.fut_sizes.specs.Scoping.{Context, with_names, with_pattern}
-use Rattle.fut_sizes.specs.Sizing.{finished, row_of, lacking, differing, turns_from, pattern_noted, sized, turns_sized, condition_sized}
+use Rattle.fut_sizes.specs.Scoping.{Context, with_names, with_pattern, with_size_names}
+use Rattle.fut_sizes.specs.Sizing.{finished, bind_ids, row_of, lacking, differing, turns_from, pattern_noted, sized, turns_sized, condition_sized}
 use Rattle.fut_sizes.specs.Steps.{State, Done, Step, give, ask, and_then, at_node}
-use Rattle.fut_sizes.specs.Suiting.{Each, Each_all, Data}
+use Rattle.fut_sizes.specs.Suiting.{Each, Each_all, Scoped, Data}
 use Rattle.sizes_meet_rules.specs.Known.{Formed, All_formed, Says, Is_const, Known_names, Judged, Elsewhere}
-use Rattle.sizes_meet_rules.specs.Plain.{Is_scalar, Plain_pattern, Plain_term, Plain_turns}
-use Rattle.sizes_meet_rules.proofs.Binding.{Behind, value_behind, behind_elsewhere, behind_judged, not_taken}
+use Rattle.sizes_meet_rules.specs.Plain.{Is_scalar, Plain_pattern, Plain_sizes, Plain_term, Plain_turns}
+use Rattle.sizes_meet_rules.proofs.Binding.{Behind, value_behind, behind_elsewhere, behind_judged}
+use Rattle.sizes_meet_rules.proofs.Bound.{width, Bound_in, scope_behind, Binds, pattern_plain, sizes_home, bound_elsewhere, bound_here, binds}
+use Rattle.sizes_meet_rules.proofs.Taking_sizes.{what}
 use Rattle.sizes_meet_rules.proofs.Forming.{data_of}
-use Rattle.sizes_meet_rules.proofs.Showing.{numbers_some, Law_of, alone, bound_ran, bound_there}
+use Rattle.sizes_meet_rules.proofs.Showing.{numbers_some, Law_of, alone, bound_ran}
 use Rattle.sizes_meet_rules.proofs.Meeting.{then_ok, asked, same_ok, at_itself, at_another, With_met, met_wider, met_settled, met_outside, says_more, says_settled, In_nodes, elsewhere_narrower, inside_wider, away_of, Meets}
-use Rattle.sizes_meet_rules.proofs.Naming.{Named_by, named_no_slot, Not_there, known_with, judged_names}
+use Rattle.sizes_meet_rules.proofs.Naming.{Named_by, named_no_slot, No_name_of, no_name_by_home, known_with, judged_all, judged_names}
 use Rattle.sizes_meet_rules.proofs.Operating.{Level_of, level_of}
-use Rattle.sizes_meet_rules.proofs.Replacing.{hole_as, not_renamed}
-use Rattle.sizes_meet_rules.proofs.Settling.{Any_variable, noted}
-use Rattle.sizes_meet_rules.proofs.Taking.{pattern_some, head_same, parts_same, bound_scope, Nodes, nodes_as, names_home, Pattern_ran, taken_is, Noted_pattern, noted_is, takes_it, among_joined}
+use Rattle.sizes_meet_rules.proofs.Replacing.{hole_as, renamed_as}
+use Rattle.sizes_meet_rules.proofs.Settling.{Is_settled, Any_variable, noted}
+use Rattle.sizes_meet_rules.proofs.Taking.{pattern_some, head_same, parts_same, bound_scope, Nodes, nodes_as, Pattern_ran, taken_is, Noted_pattern, noted_is, takes_it}
 use Rattle.sizes_meet_rules.proofs.Turning.{missing_most, erased_lacking, formed_lacking, data_lacking, variables_lacking, sizes_lacking, Turned, turned}
 
 -- a sized type of a scalar
@@ -48,7 +51,7 @@ scalar_is (Built h no_size) c f e = ap (λ g. Built g no_size) (head_same e)
 scalar_is (Built h (size_and t ts)) c f e = absurd (let z : more (erased t) (all_erased ts) ≡ none = parts_same e in cc)
 scalar_is (Fun k p r) c f e = absurd (let z : head.Fun ≡ head.Scalar c = head_same e in cc)
 
-scalar_says : (In : Free → Type 0) (Vars : Variable → Type 0) (c : ScalarType) → Says In Vars (Built (head.Scalar c) no_size)
+pub scalar_says : (In : Free → Type 0) (Vars : Variable → Type 0) (c : ScalarType) → Says In Vars (Built (head.Scalar c) no_size)
 unfolding Each Each_all Each_hole Each_holes Formed All_formed
 scalar_says In Vars c = record { sizes = tt; variables = tt; formed = (tt, tt) }
 
@@ -94,19 +97,19 @@ module _ (N : Names) (types : Sub) (home : ℕ → ℕ) (K : Kinds) (places : Ki
       pub part_is : sized N types body [] at inner condition.state ≡ Ok part
       pub body_is : finished N types at part.result part.state ≡ Ok u
 
-    abbrev inner_rest : Found → Scope → Step Size
-    inner_rest σ inner = and_then (condition_sized N types turns from inner) (λ z. and_then (sized N types body [] at inner) (λ given. and_then (finished N types at given) (λ u. give (renamed (as_taken [] σ) u))))
+    abbrev inner_rest : List BindId → Found → Scope → Step Size
+    inner_rest sizes σ inner = and_then (condition_sized N types turns from inner) (λ z. and_then (sized N types body [] at inner) (λ given. and_then (finished N types at given) (λ u. give (renamed (as_taken sizes σ) u))))
 
-    abbrev inner_turn : (Scope → Answer Scope) → Scope → Found → Step Size
-    inner_turn each outer σ = and_then (ask (each outer)) (λ inner. inner_rest σ inner)
+    abbrev inner_turn : List BindId → (Scope → Answer Scope) → Scope → Found → Step Size
+    inner_turn sizes each outer σ = and_then (ask (each outer)) (λ inner. inner_rest sizes σ inner)
 
-    pub record Inner_gives (each : Scope → Answer Scope) (outer : Scope) (σ : Found) (st : State) (r : Done Size) : Type 0 where
+    pub record Inner_gives (sizes : List BindId) (each : Scope → Answer Scope) (outer : Scope) (σ : Found) (st : State) (r : Done Size) : Type 0 where
       pub last : Done Size
       pub ran : Inner_ran each outer st last
-      pub gives : r ≡ record { result = renamed (as_taken [] σ) last.result; state = last.state }
+      pub gives : r ≡ record { result = renamed (as_taken sizes σ) last.result; state = last.state }
 
-    inner_gives : (each : Scope → Answer Scope) (outer : Scope) (σ : Found) (st : State) (r : Done Size) → inner_turn each outer σ st ≡ Ok r → Inner_gives each outer σ st r
-    inner_gives each outer σ st r q =
+    inner_gives : (sizes : List BindId) (each : Scope → Answer Scope) (outer : Scope) (σ : Found) (st : State) (r : Done Size) → inner_turn sizes each outer σ st ≡ Ok r → Inner_gives sizes each outer σ st r
+    inner_gives sizes each outer σ st r q =
         let x1 = then_ok (ask (each outer) st) q in
         let a1 = asked (each outer) st x1.first x1.done in
         let x2 = then_ok (condition_sized N types turns from x1.first.result x1.first.state) x1.rest in
@@ -129,6 +132,7 @@ module _ (N : Names) (types : Sub) (home : ℕ → ℕ) (K : Kinds) (places : Ki
       pub first_kept : (n : ℕ) → (n < from) ⊎ (at ≤ n) → each.nodes n ≡ before.nodes n
       pub first_dropped : (n : ℕ) → (n < from) ⊎ (at ≤ n) → each.dropped n ≡ before.dropped n
       pub typed : erased u.result ≡ types at
+      pub settled : Each (Scoped Is_settled) 0 u.result
       pub here : u.state.nodes at ≡ u.result
       pub kept : (n : ℕ) → (n < changing turns from at) ⊎ (hi ≤ n) → u.state.nodes n ≡ st.nodes n
       pub dropped : (n : ℕ) → (n < changing turns from at) ⊎ (hi ≤ n) → u.state.dropped n ≡ st.dropped n
@@ -146,6 +150,7 @@ module _ (N : Names) (types : Sub) (home : ℕ → ℕ) (K : Kinds) (places : Ki
       first_kept = λ n o. ap (λ (x : Done (Scope → Answer Scope)). x.state.nodes n) (sym (same_ok q));
       first_dropped = λ n o. ap (λ (x : Done (Scope → Answer Scope)). x.state.dropped n) (sym (same_ok q));
       typed = B.typed;
+      settled = (says_settled (With_met In1 at hi) Vars u.result (met_settled N types home In1 at hi at hi (elsewhere_narrower N types home from hi at hi In1 between (omega arith) E1)) B.says).0;
       here = B.here;
       kept = λ n o. B.kept n (by_body n o) ∙ ap (λ (x : State). x.nodes n) after ∙ C.kept n (by_condition n o);
       dropped = λ n o. B.dropped n (by_body n o) ∙ ap (λ (x : State). x.dropped n) after ∙ C.dropped n (by_condition n o);
@@ -199,6 +204,7 @@ module _ (N : Names) (types : Sub) (home : ℕ → ℕ) (K : Kinds) (places : Ki
       first_kept = λ n o. ap (λ (x : Done (Scope → Answer Scope)). x.state.nodes n) (sym ran.1) ∙ at_another from n ran.0.last.result ran.0.last.state.nodes (λ z. apart n o z) ∙ C.kept n (by_count n o);
       first_dropped = λ n o. ap (λ (x : Done (Scope → Answer Scope)). x.state.dropped n) (sym ran.1) ∙ C.dropped n (by_count n o);
       typed = B.typed;
+      settled = (says_settled (With_met (Counted_in i ran.0.last.result) at hi) Vars u.result (met_settled N types home (Counted_in i ran.0.last.result) at hi at hi E2) B.says).0;
       here = B.here;
       kept = λ n o. B.kept n o ∙ ap (λ (x : State). x.nodes n) after;
       dropped = λ n o. B.dropped n o ∙ ap (λ (x : State). x.dropped n) after;
@@ -253,17 +259,17 @@ module _ (N : Names) (types : Sub) (home : ℕ → ℕ) (K : Kinds) (places : Ki
         B = of_body (Counted_in i ran.0.last.result) (bound_scope N (Bound_pattern i) ran.0.last.result scope1) (typed_with the_one (Bound_pattern i) from T1) known2 E2 pb tb R.condition.state R.part u (ap (λ w. sized N types body [] at w R.condition.state) inner ∙ R.part_is) R.body_is
 
         judged2 : (s : ℕ → Size) (G1 : Context) → Judged In1 Vars scope1 G1 → s from ≡ ran.0.last.result → Judged (Counted_in i ran.0.last.result) Vars (bound_scope N (Bound_pattern i) ran.0.last.result scope1) (with_names s (Bound_pattern i) from G1)
-        judged2 s G1 J1 e = judged_names N types K places (Counted_in i ran.0.last.result) Vars home s (Bound_pattern i) from at_home ran.0.last.result tt e scope1 G1 named_before J1.none_open (hole_as Vars Any_variable (λ v i. tt) ran.0.last.result C.says.variables) split J1.finds_types
+        judged2 s G1 J1 e = judged_all (Counted_in i ran.0.last.result) Vars (bound_scope N (Bound_pattern i) ran.0.last.result scope1) (with_names s (Bound_pattern i) from G1) (judged_names N types K places (Counted_in i ran.0.last.result) Vars home s [] (Bound_pattern i) from at_home ran.0.last.result tt e scope1 G1 named_before J1.none_open (hole_as Vars Any_variable (λ v i. tt) ran.0.last.result C.says.variables) split J1.finds_types)
           where
-            named_before : (b : ℕ) (g : Bool) (u : Size) → is_among (names (Bound_pattern i)) b ≡ false → scope1 b ≡ Some (record { size = u; is_general = g }) → cond g (G1.schemes b) (G1.sizes b) ≡ Some u
-            named_before b true u n z = J1.schemes b u z
-            named_before b false u n z = J1.sizes b u z
+            named_before : (b : ℕ) (g : Bool) (u : Size) → false ≡ false → is_among (names (Bound_pattern i)) b ≡ false → scope1 b ≡ Some (record { size = u; is_general = g }) → cond g (G1.schemes b) (G1.sizes b) ≡ Some u
+            named_before b true u k n z = J1.schemes b u z
+            named_before b false u k n z = J1.sizes b u z
 
-            by_finds : (d : Free) → In1 d → (G1.finds d ≡ true) ⊎ Is_const d → ((G1.finds d ≡ true) × Not_there N types K places (Counted_in i ran.0.last.result) Vars home s from (from + 1) d) ⊎ Is_const d
-            by_finds d x (inl y) = inl (y, λ b z w. E1.outside (Name b) (subst In1 z x) (let v = w.0 in let r = w.1 in let k = body_there in (v, omega (arith, r, m3, k))))
+            by_finds : (d : Free) → In1 d → (G1.finds d ≡ true) ⊎ Is_const d → ((G1.finds d ≡ true) × No_name_of (i.0 ∷ []) d) ⊎ Is_const d
+            by_finds d x (inl y) = inl (y, no_name_by_home types home K places N (Bound_pattern i) from at_home d (λ b z w. E1.outside (Name b) (subst In1 z x) (let v = w.0 in let r = w.1 in let k = body_there in (v, omega (arith, r, m3, k)))))
             by_finds d x (inr y) = inr y
 
-            split : (d : Free) → Counted_in i ran.0.last.result d → Named_by N (Bound_pattern i) ran.0.last.result d ⊎ (((G1.finds d ≡ true) × Not_there N types K places (Counted_in i ran.0.last.result) Vars home s from (from + 1) d) ⊎ Is_const d)
+            split : (d : Free) → Counted_in i ran.0.last.result d → Named_by N (Bound_pattern i) ran.0.last.result d ⊎ (((G1.finds d ≡ true) × No_name_of (i.0 ∷ []) d) ⊎ Is_const d)
             split d (inl x) = inr (by_finds d x (J1.finds d x))
             split d (inr x) = inl x
 
@@ -288,6 +294,7 @@ module _ (N : Names) (types : Sub) (home : ℕ → ℕ) (K : Kinds) (places : Ki
       first_kept = λ n o. ap (λ (x : Done (Scope → Answer Scope)). x.state.nodes n) (sym ran.each_is) ∙ P.kept n (by_pattern n o) ∙ C.kept n (by_array n o);
       first_dropped = λ n o. ap (λ (x : Done (Scope → Answer Scope)). x.state.dropped n) (sym ran.each_is) ∙ ap (λ (f : ℕ → List ℕ). f n) P.dropped ∙ C.dropped n (by_array n o);
       typed = B.typed;
+      settled = (says_settled (With_met (Over_in p L.row) at hi) Vars u.result (met_settled N types home (Over_in p L.row) at hi at hi E2) B.says).0;
       here = B.here;
       kept = λ n o. B.kept n o ∙ ap (λ (x : State). x.nodes n) after;
       dropped = λ n o. B.dropped n o ∙ ap (λ (x : State). x.dropped n) after;
@@ -377,23 +384,23 @@ module _ (N : Names) (types : Sub) (home : ℕ → ℕ) (K : Kinds) (places : Ki
     turn_meets (Over p e) m lt pt tt' pb tb each st u q R = over_meets p e m lt pt.0 pt.1 tt'.0.0 tt'.0.1 tt'.1.0 tt'.1.1 pb tb each st u q R
 
   -- ---- the loop
-  module _ (p : FlatPattern) (first : FlatTerm) (turns : FlatTurns) (body : FlatTerm) (lo mid from at hi : ℕ) (m1 : 1 + lo + pattern_numbers p ≡ mid) (m2 : mid + numbers first ≡ from) (m3 : from + turn_numbers turns ≡ at) (m4 : at + numbers body ≡ hi) where
+  module _ (sizes : List BindId) (p : FlatPattern) (first : FlatTerm) (turns : FlatTurns) (body : FlatTerm) (lo mid from at hi : ℕ) (m1 : 1 + lo + pattern_numbers p ≡ mid) (m2 : mid + numbers first ≡ from) (m3 : from + turn_numbers turns ≡ at) (m4 : at + numbers body ≡ hi) where
     abbrev loop_turn : Scope → (Scope → Answer Scope) → Size → Step Size
-    loop_turn scope each carried = and_then (ask (bound_at N [] at mid p carried scope)) (λ k. and_then (pattern_noted N types p (1 + lo) carried) (λ y. inner_turn turns body from at each k.scope k.found))
+    loop_turn scope each carried = and_then (ask (bound_at N sizes at mid p carried scope)) (λ k. and_then (pattern_noted N types p (1 + lo) carried) (λ y. inner_turn turns body from at sizes each k.scope k.found))
 
     record Turn_ran (scope : Scope) (each : Scope → Answer Scope) (carried : Size) (st : State) (r : Done Size) : Type 0 where
       taken : Taken
       pattern : Done (Unit {0})
-      taken_ok : bound_at N [] at mid p carried scope ≡ Ok taken
+      taken_ok : bound_at N sizes at mid p carried scope ≡ Ok taken
       pattern_ok : pattern_noted N types p (1 + lo) carried st ≡ Ok pattern
-      rest : Inner_gives turns body from at each taken.scope taken.found pattern.state r
+      rest : Inner_gives turns body from at sizes each taken.scope taken.found pattern.state r
 
     turn_ran : (scope : Scope) (each : Scope → Answer Scope) (carried : Size) (st : State) (r : Done Size) → loop_turn scope each carried st ≡ Ok r → Turn_ran scope each carried st r
     turn_ran scope each carried st r q =
-        let x1 = then_ok (ask (bound_at N [] at mid p carried scope) st) q in
-        let a1 = asked (bound_at N [] at mid p carried scope) st x1.first x1.done in
+        let x1 = then_ok (ask (bound_at N sizes at mid p carried scope) st) q in
+        let a1 = asked (bound_at N sizes at mid p carried scope) st x1.first x1.done in
         let x2 = then_ok (pattern_noted N types p (1 + lo) carried x1.first.state) x1.rest in
-        record { taken = x1.first.result; pattern = x2.first; taken_ok = a1.answer; pattern_ok = ap (pattern_noted N types p (1 + lo) carried) (sym a1.state) ∙ x2.done; rest = inner_gives turns body from at each x1.first.result.scope x1.first.result.found x2.first.state r x2.rest }
+        record { taken = x1.first.result; pattern = x2.first; taken_ok = a1.answer; pattern_ok = ap (pattern_noted N types p (1 + lo) carried) (sym a1.state) ∙ x2.done; rest = inner_gives turns body from at sizes each x1.first.result.scope x1.first.result.found x2.first.state r x2.rest }
 
     pub record Loop_ran (scope : Scope) (st : State) (d : Done Part) : Type 0 where
       pub part : Done Part
@@ -407,7 +414,7 @@ module _ (N : Names) (types : Sub) (home : ℕ → ℕ) (K : Kinds) (places : Ki
       pub gives : d ≡ record { result = whole last.result; state = last.state }
 
     abbrev pub Loop_sized : (ℕ → Size) → Context → Type 0
-    Loop_sized s G = Sized N types s home first mid G × Turns_sized N types s home turns from G (with_pattern s p (1 + lo) G) × Sized N types s home body at (counter N types s home turns from (with_pattern s p (1 + lo) G)) × Loops N types s home [] p lo mid from at hi
+    Loop_sized s G = Sized N types s home first mid G × Turns_sized N types s home turns from G (with_pattern s p (1 + lo) (with_size_names (bind_ids sizes) G)) × Sized N types s home body at (counter N types s home turns from (with_pattern s p (1 + lo) (with_size_names (bind_ids sizes) G))) × Loops N types s home sizes p lo mid from at hi
 
     pub record Loop_meets (In : Free → Type 0) (Vars : Variable → Type 0) (scope : Scope) (st : State) (t : Size) (after : State) : Type 0 where
       pub says : Says (With_met In lo hi) Vars t
@@ -417,10 +424,10 @@ module _ (N : Names) (types : Sub) (home : ℕ → ℕ) (K : Kinds) (places : Ki
       pub rules : (s : ℕ → Size) (G : Context) → Judged In Vars scope G → s lo ≡ t → ((n : ℕ) → lo < n → n < hi → s n ≡ after.nodes n) → Loop_sized s G
 
     module _ (lf : Law_of N types home K places first) (lt : Law_turns turns) (lb : Law_of N types home K places body) (In : Free → Type 0) (Vars : Variable → Type 0) (scope : Scope) (T : TypeScope) (known : Known_names In Vars home scope K types T) (E : Elsewhere N types home lo hi In)
-        (plain : Plain_pattern types home K places p (1 + lo)) (fits : Pattern_typed N places K types p (1 + lo) T)
+        (plain : Plain_sizes types home K places sizes p (1 + lo)) (fits : Pattern_typed N places K types p (1 + lo) (typed_with_sizes sizes T))
         (pf : Plain_term types home K places N first mid) (tf : Typed N places first mid T K types)
-        (pt : Plain_turns types home K places N turns from) (tt' : Turns_typed N places turns from T (typed_with the_one p (1 + lo) T) K types)
-        (pb : Plain_term types home K places N body at) (tb : Typed N places body at (with_turns turns from (typed_with the_one p (1 + lo) T)) K types)
+        (pt : Plain_turns types home K places N turns from) (tt' : Turns_typed N places turns from T (typed_with the_one p (1 + lo) (typed_with_sizes sizes T)) K types)
+        (pb : Plain_term types home K places N body at) (tb : Typed N places body at (with_turns turns from (typed_with the_one p (1 + lo) (typed_with_sizes sizes T))) K types)
         (t1 : types lo ≡ types (1 + lo)) (t2 : types (1 + lo) ≡ types mid) (t3 : types lo ≡ types at) (kind : HasKind K places (types lo)) (st : State) (d : Done Part) (R : Loop_ran scope st d) where
       l1 : 1 + lo < mid
       l1 = let n = pattern_some p in omega (arith, n, m1)
@@ -466,34 +473,42 @@ module _ (N : Names) (types : Sub) (home : ℕ → ℕ) (K : Kinds) (places : Ki
       carried_typed ds = erased_lacking N types lo ds t 0 ∙ F.typed ∙ sym t2
 
       abbrev In1 : List ℕ → Free → Type 0
-      In1 ds d = Behind N types home K places In Vars scope p (c ds) lo (1 + lo) lo from hi d
+      In1 ds d = Bound_in N types home K places In Vars scope T sizes p (c ds) lo (1 + lo) lo from hi d
 
       abbrev scope1 : List ℕ → Scope
-      scope1 ds = bound_scope N p (c ds) scope
+      scope1 ds = scope_behind N types home K places In Vars scope T sizes p (c ds) lo (1 + lo) lo from hi
+
+      -- what the pattern takes, with the sizes that it names
+      abbrev wide : List ℕ → Size
+      wide ds = width N types home K places In Vars scope T sizes p (c ds) lo (1 + lo) lo from hi
+
+      names_there : (b : ℕ) → is_among (names p ++ bind_ids sizes) b ≡ true → (1 + lo ≤ home b) × (home b < 1 + lo + pattern_numbers p)
+      names_there b e = sizes_home N types home K places sizes p (1 + lo) plain b e
 
       E1 : (ds : List ℕ) → Elsewhere N types home from hi (In1 ds)
-      E1 ds = let a = l2 in let b = l3 in let k = l4 in behind_elsewhere N types home K places In Vars scope p (c ds) lo (1 + lo) lo from hi plain (omega arith) (omega (arith, m1, a)) (omega (arith, b, k)) E
+      E1 ds = let a = l2 in let b = l3 in let k = l4 in bound_elsewhere N types home K places In Vars scope T sizes p (c ds) lo (1 + lo) lo from hi (pattern_plain N types home K places sizes p (1 + lo) plain) names_there (omega arith) (omega (arith, m1, a)) (omega (arith, b, k)) E
 
       module _ (ds : List ℕ) (s : State) (r : Done Size) (ran : loop_turn scope R.each.result (c ds) s ≡ Ok r) where
         abbrev Q : Turn_ran scope R.each.result (c ds) s r
         Q = turn_ran scope R.each.result (c ds) s r ran
 
-        pattern_taken : Pattern_ran types home K places N p (c ds) (record { scope = scope; found = counted 0 nothing_found }) Q.taken
-        pattern_taken = let settled = says_settled (With_met In lo from) Vars (c ds) (met_settled N types home In lo hi lo from E) (carried_says ds) in
-            taken_is types home K places N mid p (1 + lo) T plain fits (c ds) (carried_data ds) (carried_says ds).formed settled.0 settled.1 (carried_typed ds) (record { scope = scope; found = counted 0 nothing_found }) Q.taken (bound_there N at mid p (c ds) scope Q.taken Q.taken_ok)
+        pattern_binds : Binds N types home K places In Vars scope T sizes p (c ds) lo (1 + lo) lo from hi Q.taken
+        pattern_binds = let settled = says_settled (With_met In lo from) Vars (c ds) (met_settled N types home In lo hi lo from E) (carried_says ds) in
+            let a = l2 in let b = l3 in let k = l4 in
+            binds N types home K places In Vars scope T (c ds) lo mid (1 + lo) lo from hi (omega arith) E (carried_says ds) (carried_data ds) settled.0 settled.1 (carried_typed ds) known sizes p (omega (arith, m1, a, b, k)) plain fits Q.taken (bound_here N sizes at mid p (c ds) scope Q.taken Q.taken_ok)
 
-        P : Noted_pattern types home K places N p (1 + lo) (c ds) s Q.pattern.state
-        P = noted_is types home K places N p (1 + lo) plain (c ds) pattern_taken.parts s Q.pattern Q.pattern_ok
+        P : Noted_pattern types home K places N p (1 + lo) (wide ds) s Q.pattern.state
+        P = pattern_binds.noted s Q.pattern Q.pattern_ok
 
-        known1 : Known_names (In1 ds) Vars home (scope1 ds) K types (typed_with the_one p (1 + lo) T)
-        known1 = known_with N types K places (In1 ds) Vars home In Vars (λ d x. inl x) (λ v x. x) p (1 + lo) T plain fits (c ds) pattern_taken.parts scope T known (value_behind N types home K places In Vars scope p (c ds) lo (1 + lo) lo from hi (carried_says ds) (carried_data ds)) (carried_typed ds) (λ d n. inr (inr n))
+        known1 : Known_names (In1 ds) Vars home (scope1 ds) K types (typed_with the_one p (1 + lo) (typed_with_sizes sizes T))
+        known1 = pattern_binds.known known
 
         abbrev u : Done Size
         u = Q.rest.last
 
-        M : Turn_meets In (In1 ds) Vars scope (scope1 ds) (λ d x. inl x) T (typed_with the_one p (1 + lo) T) known known1 body lb from at hi m4 (elsewhere_narrower N types home lo hi from hi In (let a = l1 in let b = l2 in omega (arith, a, b)) (omega arith) E) (E1 ds) R.value.state turns R.each.state Q.pattern.state u
-        M = turn_meets In (In1 ds) Vars scope (scope1 ds) (λ d x. inl x) T (typed_with the_one p (1 + lo) T) known known1 body lb from at hi m4 (elsewhere_narrower N types home lo hi from hi In (let a = l1 in let b = l2 in omega (arith, a, b)) (omega arith) E) (E1 ds) R.value.state
-            turns m3 lt pt tt' pb tb R.each Q.pattern.state u R.each_is (subst (λ w. Inner_ran turns body from at R.each.result w Q.pattern.state u) pattern_taken.scope Q.rest.ran)
+        M : Turn_meets In (In1 ds) Vars scope (scope1 ds) (λ d x. inl (inl x)) T (typed_with the_one p (1 + lo) (typed_with_sizes sizes T)) known known1 body lb from at hi m4 (elsewhere_narrower N types home lo hi from hi In (let a = l1 in let b = l2 in omega (arith, a, b)) (omega arith) E) (E1 ds) R.value.state turns R.each.state Q.pattern.state u
+        M = turn_meets In (In1 ds) Vars scope (scope1 ds) (λ d x. inl (inl x)) T (typed_with the_one p (1 + lo) (typed_with_sizes sizes T)) known known1 body lb from at hi m4 (elsewhere_narrower N types home lo hi from hi In (let a = l1 in let b = l2 in omega (arith, a, b)) (omega arith) E) (E1 ds) R.value.state
+            turns m3 lt pt tt' pb tb R.each Q.pattern.state u R.each_is (subst (λ w. Inner_ran turns body from at R.each.result w Q.pattern.state u) pattern_binds.scope_is Q.rest.ran)
 
       -- ---- what turns leave as it is
       abbrev edge : ℕ
@@ -553,10 +568,10 @@ module _ (N : Names) (types : Sub) (home : ℕ → ℕ) (K : Kinds) (places : Ki
       abbrev last_turn : Turn_ran scope R.each.result (c W.ds) W.before W.last
       last_turn = Q W.ds W.before W.last W.ran
 
-      abbrev last_meets : Turn_meets In (In1 W.ds) Vars scope (scope1 W.ds) (λ d x. inl x) T (typed_with the_one p (1 + lo) T) known (known1 W.ds W.before W.last W.ran) body lb from at hi m4 (elsewhere_narrower N types home lo hi from hi In (let a = l1 in let b = l2 in omega (arith, a, b)) (omega arith) E) (E1 W.ds) R.value.state turns R.each.state last_turn.pattern.state last_turn.rest.last
+      abbrev last_meets : Turn_meets In (In1 W.ds) Vars scope (scope1 W.ds) (λ d x. inl (inl x)) T (typed_with the_one p (1 + lo) (typed_with_sizes sizes T)) known (known1 W.ds W.before W.last W.ran) body lb from at hi m4 (elsewhere_narrower N types home lo hi from hi In (let a = l1 in let b = l2 in omega (arith, a, b)) (omega arith) E) (E1 W.ds) R.value.state turns R.each.state last_turn.pattern.state last_turn.rest.last
       last_meets = M W.ds W.before W.last W.ran
 
-      abbrev last_pattern : Noted_pattern types home K places N p (1 + lo) (c W.ds) W.before last_turn.pattern.state
+      abbrev last_pattern : Noted_pattern types home K places N p (1 + lo) (wide W.ds) W.before last_turn.pattern.state
       last_pattern = P W.ds W.before W.last W.ran
 
       result_is : R.last.result ≡ c W.ds
@@ -569,18 +584,12 @@ module _ (N : Names) (types : Sub) (home : ℕ → ℕ) (K : Kinds) (places : Ki
       end_stays : (n : ℕ) → Stays n → R.last.state.nodes n ≡ R.each.state.nodes n
       end_stays n o = ap (λ (x : Done Size). x.state.nodes n) W.gives ∙ turn_kept W.ds W.before W.last W.ran n o ∙ W.inv.nodes n o
 
-      same_taken : last_turn.rest.last.result ≡ W.last.result
-      same_taken = sym (not_renamed (as_taken [] last_turn.taken.found) same last_turn.rest.last.result) ∙ ap (λ (x : Done Size). x.result) (sym last_turn.rest.gives)
-        where
-          same_found : (σ : Found) → σ ≡ counted 0 nothing_found → (x : Free) → as_taken [] σ x ≡ x
-          same_found σ e (Const y) = refl
-          same_found σ e (Name y) = refl
-          same_found σ e (Own y i) = refl
-          same_found σ e (Unknown y i) = refl
-          same_found σ e (Slot y) = ap (λ (w : Found). w.size y) e
+      last_binds : Binds N types home K places In Vars scope T sizes p (c W.ds) lo (1 + lo) lo from hi last_turn.taken
+      last_binds = pattern_binds W.ds W.before W.last W.ran
 
-          same : (x : Free) → as_taken [] last_turn.taken.found x ≡ x
-          same x = same_found last_turn.taken.found (pattern_taken W.ds W.before W.last W.ran).found x
+      -- what the size names take, in what a turn gives
+      same_taken : renamed (taken_by (what sizes last_turn.taken.found) (bind_ids sizes)) last_turn.rest.last.result ≡ W.last.result
+      same_taken = sym (renamed_as (as_taken sizes last_turn.taken.found) (taken_by (what sizes last_turn.taken.found) (bind_ids sizes)) Is_settled last_binds.taken_same last_turn.rest.last.result last_meets.settled) ∙ ap (λ (x : Done Size). x.result) (sym last_turn.rest.gives)
 
       to_all : (d : Free) → With_met In lo from d → With_met In lo hi d
       to_all d (inl i) = inl i
@@ -590,43 +599,35 @@ module _ (N : Names) (types : Sub) (home : ℕ → ℕ) (K : Kinds) (places : Ki
       first_outside lo' hi' a b k x (inl i) o = (elsewhere_narrower N types home lo hi lo' hi' In a b E).outside x i o
       first_outside lo' hi' a b k x (inr i) o = met_outside N types home mid from lo' hi' k x i o
 
-      names_there : (b : ℕ) → is_among (names p) b ≡ true → (1 + lo ≤ home b) × (home b < mid)
-      names_there b e = let w = names_home types home K places p (1 + lo) plain b e in let x = w.0 in let y = w.1 in (x, omega (arith, y, m1))
-
       rules : (s : ℕ → Size) (G : Context) → Judged In Vars scope G → s lo ≡ R.last.result → ((n : ℕ) → lo < n → n < hi → s n ≡ R.last.state.nodes n) → Loop_sized s G
       rules s G J e f =
           let a1 = l1 in let a2 = l2 in let a3 = l3 in let a4 = l4 in let a5 = edges.0 in
           let value_there : (n : ℕ) → mid ≤ n → n < from → s n ≡ R.value.state.nodes n = λ n x y. f n (omega (arith, x, a1)) (omega (arith, y, a3, a4)) ∙ end_stays n (inr (inl (x, omega (arith, y, a5)))) ∙ last_meets.first_kept n (inl y) in
           let at_value : s mid ≡ t = value_there mid (omega arith) a2 ∙ F.here in
-          let nodes : Nodes N p (1 + lo) (c W.ds) s = nodes_as N p (1 + lo) (c W.ds) last_turn.pattern.state.nodes s (λ n x y. f n (omega (arith, x)) (omega (arith, y, m1, a2, a3, a4)) ∙ end_nodes n ∙ last_meets.kept n (inl (omega (arith, y, m1, a2, a5)))) last_pattern.nodes in
-          let parts = (pattern_taken W.ds W.before W.last W.ran).parts in
-          let J1 = behind_judged N types home K places In Vars scope p (c W.ds) lo (1 + lo) lo from hi plain (omega arith) (omega (arith, m1, a2)) (omega (arith, a3, a4)) E s G parts (hole_as Vars Any_variable (λ v i. tt) (c W.ds) (carried_says W.ds).variables) J nodes in
+          let nodes : Nodes N p (1 + lo) (wide W.ds) s = nodes_as N p (1 + lo) (wide W.ds) last_turn.pattern.state.nodes s (λ n x y. f n (omega (arith, x)) (omega (arith, y, m1, a2, a3, a4)) ∙ end_nodes n ∙ last_meets.kept n (inl (omega (arith, y, m1, a2, a5)))) last_pattern.nodes in
+          let J1 = last_binds.judged s G J nodes in
           let same : (n : ℕ) → from ≤ n → n < edge → last_turn.pattern.state.nodes n ≡ R.each.state.nodes n = λ n x y. last_pattern.kept n (inr (omega (arith, x, m1, a2))) ∙ W.inv.nodes n (inr (inl (omega (arith, x, a2), y))) in
-          let inside = last_meets.rules s G (with_pattern s p (1 + lo) G) J J1 same (λ n x y. f n (omega (arith, x, a1, a2)) y ∙ end_nodes n) in
+          let inside = last_meets.rules s G (with_pattern s p (1 + lo) (with_size_names (bind_ids sizes) G)) J J1 same (λ n x y. f n (omega (arith, x, a1, a2)) y ∙ end_nodes n) in
           let at_body : s at ≡ last_turn.rest.last.result = f at (omega (arith, a1, a2, a3)) a4 ∙ end_nodes at ∙ last_meets.here in
           let at_loop : s lo ≡ c W.ds = e ∙ result_is in
-          let taken_all : Pattern_takes N types s home (taken_by (λ b. Const 0) []) p (1 + lo) (c W.ds) = takes_it types home K places N s (taken_by (λ b. Const 0) []) (not_taken (λ b. Const 0)) p (1 + lo) plain (c W.ds) parts nodes in
-          let loop : Loops N types s home [] p lo mid from at hi = record {
+          let taken_all : Pattern_takes N types s home (taken_by (what sizes last_turn.taken.found) (bind_ids sizes)) p (1 + lo) (c W.ds) = last_binds.takes s nodes in
+          let loop : Loops N types s home sizes p lo mid from at hi = record {
             dropped = W.ds;
             carried = at_loop ∙ ap (lacking N types lo W.ds 0) (sym at_value);
             no_function = subst Data (sym at_value) is_data;
-            what = λ b. Const 0;
-            taken = subst (λ w. Pattern_takes N types s home (taken_by (λ b. Const 0) []) p (1 + lo) w) (sym at_loop) taken_all;
-            sizes_met = λ b y. absurd (let w : false ≡ true = y in cc);
+            what = what sizes last_turn.taken.found;
+            taken = subst (λ w. Pattern_takes N types s home (taken_by (what sizes last_turn.taken.found) (bind_ids sizes)) p (1 + lo) w) (sym at_loop) taken_all;
+            sizes_met = λ b y. ap (λ w. stands w (what sizes last_turn.taken.found b)) at_loop ∙ last_binds.sizes_met b y;
             bound = λ b y. at_home b y;
-            kept = ap (λ w. differing N types W.ds 0 w (renamed (taken_by (λ b. Const 0) []) (s at))) at_loop ∙ ap (differing N types W.ds 0 (c W.ds)) (not_renamed (taken_by (λ b. Const 0) []) (not_taken (λ b. Const 0)) (s at) ∙ at_body ∙ same_taken) ∙ W.kept;
+            kept = ap (λ w. differing N types W.ds 0 w (renamed (taken_by (what sizes last_turn.taken.found) (bind_ids sizes)) (s at))) at_loop ∙ ap (λ w. differing N types W.ds 0 (c W.ds) (renamed (taken_by (what sizes last_turn.taken.found) (bind_ids sizes)) w)) at_body ∙ ap (differing N types W.ds 0 (c W.ds)) same_taken ∙ W.kept;
             one_type = ap erased at_value ∙ F.typed ∙ sym t2 ∙ sym t1 ∙ t3 ∙ sym last_meets.typed ∙ ap erased (sym at_body);
             value_away = subst (λ w. Away N types s home lo mid w) (sym at_value) (away_of N types home (With_met In mid from) Vars s lo mid t (first_outside lo mid (omega arith) (omega (arith, a2, a3, a4)) (inr (omega arith))) F.says);
             turns_away = subst (λ w. Away N types s home from hi w) (sym at_value) (away_of N types home (With_met In mid from) Vars s from hi t (first_outside from hi (omega (arith, a1, a2)) (omega arith) (inl (omega arith))) F.says);
           } in
           (F.rules s G J value_there, inside.0, inside.1, loop)
         where
-          at_home : (b : ℕ) → is_among (names p ++ []) b ≡ true → (1 + lo ≤ home b) × (home b < mid)
-          at_home b y = by_side (among_joined (names p) [] b y)
-            where
-              by_side : (is_among (names p) b ≡ true) ⊎ (is_among [] b ≡ true) → (1 + lo ≤ home b) × (home b < mid)
-              by_side (inl w) = names_there b w
-              by_side (inr w) = absurd (let z : false ≡ true = w in cc)
+          at_home : (b : ℕ) → is_among (names p ++ bind_ids sizes) b ≡ true → (1 + lo ≤ home b) × (home b < mid)
+          at_home b y = let h = names_there b y in let z = h.1 in (h.0, omega (arith, z, m1))
 
       pub loop_meets : Loop_meets In Vars scope st R.last.result R.last.state
       loop_meets = record {

@@ -1,5 +1,5 @@
 -- What is proved of each term: what its sized type says, which nodes are noted, and that they meet the rules.
-use Rattle.std.proofs.Common.{◌≡◌, ◌⊎◌, ℕ, zero, suc, ◌<◌, ◌≤◌, List, ◌∷◌, false, cond, Option, None, Ok, Err, refl, sym, ap, ◌∙◌, subst, arith, inl, inr, eq-eqb}
+use Rattle.std.proofs.Common.{◌≡◌, ◌⊎◌, ℕ, zero, suc, ◌<◌, ◌≤◌, List, ◌∷◌, Bool, false, cond, Option, None, Ok, Err, refl, sym, ap, ◌∙◌, subst, arith, inl, inr, eq-eqb}
 use Rattle.std.proofs.lemmas.Bool.{ne_eqb}
 use Rattle.fut_flat.specs.Erased.{FlatTerm}
 use Rattle.fut_types.specs.Types.{Ty, fun_ty, Sub}
@@ -169,9 +169,10 @@ module _ (N : Names) (types : Sub) (home : ℕ → ℕ) where
     -- a function whose arguments wait to be matched
     pub record Is_applied (e : FlatTerm) (lo hi : ℕ) (st : State) (part : Part) (after : State) : Type 0 where
       pub function : Size
+      pub regular : Bool
       pub argument : Argument
       pub others : List Argument
-      pub is_applied : part ≡ Applied function false (argument ∷ others)
+      pub is_applied : part ≡ Applied function regular (argument ∷ others)
       pub by_itself : (u : Done Size) → finished N types lo part after ≡ Ok u → Meets e lo hi st u.result u.state
 
     abbrev pub Part_meets : FlatTerm → ℕ → ℕ → State → Part → State → Type 0

@@ -1,5 +1,5 @@
 -- What is known of the names in scope where a pattern took a value.
-use Rattle.std.proofs.Common.{◌≡◌, ◌⊎◌, ℕ, zero, suc, ◌+◌, ◌<◌, ◌≤◌, List, [], ◌∷◌, ◌++◌, Bool, true, false, ◌||◌, cond, nat_eq, Option, Some, None, refl, sym, ap, ◌∙◌, subst, arith, inl, inr, eq-eqb}
+use Rattle.std.proofs.Common.{◌≡◌, ◌⊎◌, ℕ, zero, suc, ◌+◌, ◌≤◌, List, [], ◌∷◌, ◌++◌, Bool, true, false, ◌||◌, cond, nat_eq, Option, Some, None, refl, sym, ap, ◌∙◌, subst, arith, inl, inr, eq-eqb}
 use Rattle.std.proofs.lemmas.Bool.{ne_eqb, eqb-false}
 use native.Mathlib.Decide.{ℕ_discrete}
 use Rattle.fut_scalar.specs.declared.place.BindId.{BindId}
@@ -33,7 +33,7 @@ use Rattle.sizes_meet_rules.proofs.Operating.{All_say, first_says, rest_say, par
 use Rattle.fut_ast.specs.Sorts.{Text}
 use Rattle.fut_sizes.specs.WrittenSizes.{part as size_part, part_of}
 use Rattle.fut_types.specs.Shapes.{place}
-use Rattle.sizes_meet_rules.proofs.Taking.{parts_same, Of_part, If_part, part_bound, of_part, both_parts, Has_parts, All_have_parts, Fields_have, Field_has, bound_scope, parts_bound, fields_bound, field_bound, Nodes, All_nodes, Fields_nodes, first_node, At_home, among_first, among_later}
+use Rattle.sizes_meet_rules.proofs.Taking.{parts_same, Of_part, If_part, part_bound, of_part, both_parts, Has_parts, All_have_parts, Fields_have, Field_has, bound_scope, parts_bound, fields_bound, field_bound, Nodes, All_nodes, Fields_nodes, first_node, At_home, names_home, all_names_home, among_first, among_later, first_not, later_not}
 
 -- a name of the pattern whose part is a number may be a size
 abbrev mutual
@@ -83,9 +83,32 @@ pub general_same : (t u : Size) → ◌≡◌ {A = Option Known} (Some (record {
 unfolding general_of
 general_same t u e = ap (general_of false) e
 
--- a size that stands in a value's type, and is no name that is at home at these nodes
-abbrev pub Stands_there : (ℕ → ℕ) → ℕ → ℕ → Size → Free → Type 0
-Stands_there home q hi t d = (stands t d ≡ true) × ((b : ℕ) → d ≡ Name b → (q ≤ home b) × (home b < hi) → ⊥)
+-- a size that is none of these names
+abbrev pub No_name_of : List ℕ → Free → Type 0
+No_name_of xs d = (b : ℕ) → d ≡ Name b → is_among xs b ≡ false
+
+-- one that stands in a value's type
+abbrev pub Stands_there : List ℕ → Size → Free → Type 0
+Stands_there xs t d = (stands t d ≡ true) × No_name_of xs d
+
+-- known, or a size name of a head that no parameter has chosen yet
+abbrev pub Head_name : List ℕ → Free → Type 0
+Head_name bs (Name b) = is_among bs b ≡ true
+Head_name bs d = ⊥
+
+abbrev pub With_head : List ℕ → (Free → Type 0) → Free → Type 0
+With_head bs In d = In d ⊎ Head_name bs d
+
+-- the rules know the same of the names in scope but these: size names of a head that no parameter has chosen yet
+pub record Judged_but (bs : List ℕ) (In : Free → Type 0) (Vars : Variable → Type 0) (scope : Scope) (G : Context) : Type 0 where
+  pub sizes : (b : ℕ) (t : Size) → is_among bs b ≡ false → scope b ≡ Some (record { size = t; is_general = false }) → G.sizes b ≡ Some t
+  pub schemes : (b : ℕ) (t : Size) → is_among bs b ≡ false → scope b ≡ Some (record { size = t; is_general = true }) → G.schemes b ≡ Some t
+  pub none_open : None_open G
+  pub finds : (d : Free) → In d → (G.finds d ≡ true) ⊎ Is_const d
+  pub finds_types : (v : Variable) → Vars v → G.finds_types v ≡ true
+
+pub judged_all : (In : Free → Type 0) (Vars : Variable → Type 0) (scope : Scope) (G : Context) → Judged_but [] In Vars scope G → Judged In Vars scope G
+judged_all In Vars scope G J = record { sizes = λ b t z. J.sizes b t refl z; schemes = λ b t z. J.schemes b t refl z; none_open = J.none_open; finds = J.finds; finds_types = J.finds_types }
 
 -- all sizes of data stand in it
 module _ (Q : Free → Type 0) where
@@ -157,7 +180,7 @@ none_among (x ∷ xs) ys b e f = by_name (nat_eq b x) (none_among xs ys b) e
     by_name false go e = go e f
 
 -- a name of type i64 is not general
-no_function : (p r : Ty) → i64_ty ≡ fun_ty p r → ⊥
+pub no_function : (p r : Ty) → i64_ty ≡ fun_ty p r → ⊥
 no_function p r e = let z : Made (head.Scalar (scalar.Int int.I64)) none ≡ Made head.Fun (more p (more r none)) = e in cc
 
 pub number_name : (In : Free → Type 0) (Vars : Variable → Type 0) (types : Sub) (home : ℕ → ℕ) (scope : Scope) (b : ℕ) (k : Known_name In Vars types home scope b i64_ty) → (k.is_general ≡ false) × (erased k.size ≡ i64_ty)
@@ -199,6 +222,24 @@ module _ (types : Sub) (home : ℕ → ℕ) (K : Kinds) (places : Kind) where
       fields_there (l ∷ ls) no_pattern q h t d n = absurd n
       fields_there (l ∷ ls) (pattern_and p ps) q h t d (inl n) = there_wider q (q + pattern_numbers p) q (q + (pattern_numbers p + all_pattern_numbers ps)) (omega arith) (omega arith) d (of_part (part_of N l t) (λ u. Named_by N p u d) (Name_there q (q + pattern_numbers p) d) (λ u k. named_there p q h.0 u d k) n)
       fields_there (l ∷ ls) (pattern_and p ps) q h t d (inr n) = there_wider (q + pattern_numbers p) (q + pattern_numbers p + all_pattern_numbers ps) q (q + (pattern_numbers p + all_pattern_numbers ps)) (omega arith) (omega arith) d (fields_there ls ps (q + pattern_numbers p) h.1 t d n)
+
+    -- a name of other nodes is none of a pattern
+    pub no_name_by_home : (p : FlatPattern) (q : ℕ) → Plain_pattern types home K places p q → (d : Free) → ((b : ℕ) → d ≡ Name b → At_home types home K places q (q + pattern_numbers p) b → ⊥) → No_name_of (names p) d
+    no_name_by_home p q h d a b z = by_among (is_among (names p) b) refl
+      where
+        by_among : (c : Bool) → is_among (names p) b ≡ c → is_among (names p) b ≡ false
+        by_among true f = absurd (a b z (names_home types home K places p q h b f))
+        by_among false f = f
+
+    no_part_by_home : (ps : Patterns Ref BindId) (q n hi : ℕ) → hi ≤ q → Plain_parts types home K places ps q → (d : Free) → Name_there n hi d → No_name_of (all_names ps) d
+    no_part_by_home ps q n hi l h d (c, e, (x, y)) b z = by_among (is_among (all_names ps) b) refl
+      where
+        same : home c ≡ home b
+        same = ap home (let w : Name c ≡ Name b = sym e ∙ z in let v : c ≡ b = cc in v)
+
+        by_among : (k : Bool) → is_among (all_names ps) b ≡ k → is_among (all_names ps) b ≡ false
+        by_among true f = absurd (let w = all_names_home types home K places ps q h b f in let m = w.0 in let s = same in omega (arith, l, y, m, s))
+        by_among false f = f
 
     pub named_no_slot : (p : FlatPattern) (q : ℕ) → Plain_pattern types home K places p q → (t : Size) (d : Free) → Named_by N p t d → is_slot d ≡ false
     named_no_slot p q h t d n = ap is_slot (named_there p q h t d n).1
@@ -339,25 +380,21 @@ module _ (N : Names) (types : Sub) (K : Kinds) (places : Kind) (In' : Free → T
           fields_sizes (l ∷ ls) (pattern_and p ps) q t c n scope G hyp z = fields_sizes ls ps (q + pattern_numbers p) t c.1 n.1 (field_bound N p (part_of N l t) scope) (with_names s p q G)
               (λ f y. field_sizes (part_of N l t) (λ u. Has_parts N p u) (λ u. Nodes N p q u s) (λ v inner. bound_scope N p v inner) scope (named_in g (with_names s p q G) ≡ Some u) (λ v g m w. sizes_with p q v g m scope G (λ e r. hyp (none_among (names p) (all_names ps) b e f) r) w) c.0 n.0 y) z
 
-      abbrev pub Not_there : ℕ → ℕ → Free → Type 0
-      Not_there q hi d = (b : ℕ) → d ≡ Name b → At_home types home K places q hi b → ⊥
-
       mutual
-        pub found_still : (p : FlatPattern) (q : ℕ) → Plain_pattern types home K places p q → (G : Context) (d : Free) → Not_there q (q + pattern_numbers p) d → G.finds d ≡ true → (with_names s p q G).finds d ≡ true
-        found_still (Bound_pattern x) q h G (Name b) a y = ap (λ c. cond c (is_number (s q)) (G.finds (Name b))) (ne_eqb x.0 b (λ z. a b refl (let w : home b ≡ q = ap home (sym z) ∙ h in (omega (arith, w), omega (arith, w))))) ∙ y
-        found_still (Bound_pattern x) q h G (Const c) a y = y
-        found_still (Bound_pattern x) q h G (Own n i) a y = y
-        found_still (Bound_pattern x) q h G (Unknown n i) a y = y
-        found_still (Bound_pattern x) q h G (Slot i) a y = y
-        found_still Wild_pattern q h G d a y = y
-        found_still (Tuple_pattern ps) q h G d a y = parts_still ps (1 + q) h G d (λ b z w. a b z (let l = w.0 in let m = w.1 in (omega (arith, l), omega (arith, m)))) y
-        found_still (Record_pattern fs ps) q h G d a y = parts_still ps (1 + q) h G d (λ b z w. a b z (let l = w.0 in let m = w.1 in (omega (arith, l), omega (arith, m)))) y
-        found_still (Typed_pattern p e) q h G d a y = found_still p q h.1 G d a y
+        pub found_still : (p : FlatPattern) (q : ℕ) (G : Context) (d : Free) → No_name_of (names p) d → G.finds d ≡ true → (with_names s p q G).finds d ≡ true
+        found_still (Bound_pattern x) q G (Name b) a y = ap (λ c. cond c (is_number (s q)) (G.finds (Name b))) (ne_eqb x.0 b (λ z. let w : true ≡ false = sym (ap (λ c. cond c true false) (eq-eqb b x.0 (sym z))) ∙ a b refl in cc)) ∙ y
+        found_still (Bound_pattern x) q G (Const c) a y = y
+        found_still (Bound_pattern x) q G (Own n i) a y = y
+        found_still (Bound_pattern x) q G (Unknown n i) a y = y
+        found_still (Bound_pattern x) q G (Slot i) a y = y
+        found_still Wild_pattern q G d a y = y
+        found_still (Tuple_pattern ps) q G d a y = parts_still ps (1 + q) G d a y
+        found_still (Record_pattern fs ps) q G d a y = parts_still ps (1 + q) G d a y
+        found_still (Typed_pattern p e) q G d a y = found_still p q G d a y
 
-        parts_still : (ps : Patterns Ref BindId) (q : ℕ) → Plain_parts types home K places ps q → (G : Context) (d : Free) → Not_there q (q + all_pattern_numbers ps) d → G.finds d ≡ true → (with_all_names s ps q G).finds d ≡ true
-        parts_still no_pattern q h G d a y = y
-        parts_still (pattern_and p ps) q h G d a y = parts_still ps (q + pattern_numbers p) h.1 (with_names s p q G) d (λ b z w. a b z (let l = w.0 in let m = w.1 in (omega (arith, l), omega (arith, m))))
-            (found_still p q h.0 G d (λ b z w. a b z (let l = w.0 in let m = w.1 in (omega (arith, l), omega (arith, m)))) y)
+        parts_still : (ps : Patterns Ref BindId) (q : ℕ) (G : Context) (d : Free) → No_name_of (all_names ps) d → G.finds d ≡ true → (with_all_names s ps q G).finds d ≡ true
+        parts_still no_pattern q G d a y = y
+        parts_still (pattern_and p ps) q G d a y = parts_still ps (q + pattern_numbers p) (with_names s p q G) d (λ b z. later_not (names p) (all_names ps) b (a b z)) (found_still p q G d (λ b z. first_not (names p) (all_names ps) b (a b z)) y)
 
       mutual
         found_named : (p : FlatPattern) (q : ℕ) → Plain_pattern types home K places p q → (t : Size) → Nodes N p q t s → (G : Context) (d : Free) → Named_by N p t d → (with_names s p q G).finds d ≡ true
@@ -374,19 +411,13 @@ module _ (N : Names) (types : Sub) (K : Kinds) (places : Kind) (In' : Free → T
         part_found : (ps : Patterns Ref BindId) (q : ℕ) → Plain_parts types home K places ps q → (ts : Sizes) → All_nodes N ps q ts s → (G : Context) (d : Free) → Part_named N ps ts d → (with_all_names s ps q G).finds d ≡ true
         part_found no_pattern q h ts n G d y = absurd y
         part_found (pattern_and p ps) q h no_size n G d y = absurd y
-        part_found (pattern_and p ps) q h (size_and t ts) n G d (inl y) = parts_still ps (q + pattern_numbers p) h.1 (with_names s p q G) d (λ b z w. elsewhere b z w (named_there types home K places N p q h.0 t d y)) (found_named p q h.0 t n.0 G d y)
-          where
-            elsewhere : (b : ℕ) → d ≡ Name b → At_home types home K places (q + pattern_numbers p) (q + pattern_numbers p + all_pattern_numbers ps) b → Name_there types home K places q (q + pattern_numbers p) d → ⊥
-            elsewhere b z (l, m) (c, e, (x, y)) = let same : c ≡ b = (let w : Name c ≡ Name b = sym e ∙ z in cc) in let w : home c ≡ home b = ap home same in omega (arith, l, y, w)
+        part_found (pattern_and p ps) q h (size_and t ts) n G d (inl y) = parts_still ps (q + pattern_numbers p) (with_names s p q G) d (no_part_by_home types home K places N ps (q + pattern_numbers p) q (q + pattern_numbers p) (omega arith) h.1 d (named_there types home K places N p q h.0 t d y)) (found_named p q h.0 t n.0 G d y)
         part_found (pattern_and p ps) q h (size_and t ts) n G d (inr y) = part_found ps (q + pattern_numbers p) h.1 ts n.1 (with_names s p q G) d y
 
         fields_found : (ls : List Text) (ps : Patterns Ref BindId) (q : ℕ) → Plain_parts types home K places ps q → (t : Size) → Fields_nodes N ls ps q t s → (G : Context) (d : Free) → Fields_named N ls ps t d → (with_all_names s ps q G).finds d ≡ true
         fields_found [] ps q h t n G d y = absurd y
         fields_found (l ∷ ls) no_pattern q h t n G d y = absurd y
-        fields_found (l ∷ ls) (pattern_and p ps) q h t n G d (inl y) = parts_still ps (q + pattern_numbers p) h.1 (with_names s p q G) d (λ b z w. elsewhere b z w (of_part (part_of N l t) (λ u. Named_by N p u d) (Name_there types home K places q (q + pattern_numbers p) d) (λ u k. named_there types home K places N p q h.0 u d k) y)) (both_parts (part_of N l t) (λ u. Named_by N p u d) (λ u. Nodes N p q u s) ((with_names s p q G).finds d ≡ true) (λ u k m. found_named p q h.0 u m G d k) y n.0)
-          where
-            elsewhere : (b : ℕ) → d ≡ Name b → At_home types home K places (q + pattern_numbers p) (q + pattern_numbers p + all_pattern_numbers ps) b → Name_there types home K places q (q + pattern_numbers p) d → ⊥
-            elsewhere b z (r, m) (c, e, (x, y)) = let same : c ≡ b = (let w : Name c ≡ Name b = sym e ∙ z in cc) in let w : home c ≡ home b = ap home same in omega (arith, r, y, w)
+        fields_found (l ∷ ls) (pattern_and p ps) q h t n G d (inl y) = parts_still ps (q + pattern_numbers p) (with_names s p q G) d (no_part_by_home types home K places N ps (q + pattern_numbers p) q (q + pattern_numbers p) (omega arith) h.1 d (of_part (part_of N l t) (λ u. Named_by N p u d) (Name_there types home K places q (q + pattern_numbers p) d) (λ u k. named_there types home K places N p q h.0 u d k) y)) (both_parts (part_of N l t) (λ u. Named_by N p u d) (λ u. Nodes N p q u s) ((with_names s p q G).finds d ≡ true) (λ u k m. found_named p q h.0 u m G d k) y n.0)
         fields_found (l ∷ ls) (pattern_and p ps) q h t n G d (inr y) = fields_found ls ps (q + pattern_numbers p) h.1 t n.1 (with_names s p q G) d y
 
       mutual
@@ -440,39 +471,39 @@ module _ (N : Names) (types : Sub) (K : Kinds) (places : Kind) (In' : Free → T
         none_open_fields (l ∷ ls) (pattern_and p ps) q t c n h G o = none_open_fields ls ps (q + pattern_numbers p) t c.1 n.1 h (with_names s p q G)
             (of_field (part_of N l t) p q (None_open (with_names s p q G)) (λ u e k m. none_open_with p q u k m (part_none_open N l t h u e) G o) c.0 n.0)
 
-      module _ (p : FlatPattern) (q : ℕ) (l : Plain_pattern types home K places p q) (t : Size) (c : Has_parts N p t) (n : Nodes N p q t s) (scope : Scope) (G : Context) (known : (b : ℕ) (g : Bool) (u : Size) → is_among (names p) b ≡ false → scope b ≡ Some (record { size = u; is_general = g }) → named_in b g u g G ≡ Some u) (none_open : None_open G) (closed : Each_hole Any_variable t) where
-        pub judged_names : ((d : Free) → In' d → Named_by N p t d ⊎ (((G.finds d ≡ true) × Not_there q (q + pattern_numbers p) d) ⊎ Is_const d)) → ((v : Variable) → Vars' v → G.finds_types v ≡ true) → Judged In' Vars' (bound_scope N p t scope) (with_names s p q G)
+      module _ (bs : List ℕ) (p : FlatPattern) (q : ℕ) (l : Plain_pattern types home K places p q) (t : Size) (c : Has_parts N p t) (n : Nodes N p q t s) (scope : Scope) (G : Context) (known : (b : ℕ) (g : Bool) (u : Size) → is_among bs b ≡ false → is_among (names p) b ≡ false → scope b ≡ Some (record { size = u; is_general = g }) → named_in b g u g G ≡ Some u) (none_open : None_open G) (closed : Each_hole Any_variable t) where
+        pub judged_names : ((d : Free) → In' d → Named_by N p t d ⊎ (((G.finds d ≡ true) × No_name_of (names p) d) ⊎ Is_const d)) → ((v : Variable) → Vars' v → G.finds_types v ≡ true) → Judged_but bs In' Vars' (bound_scope N p t scope) (with_names s p q G)
         judged_names split types_found = record {
-          sizes = λ b u z. sizes_with b false u p q t c n scope G (known b false u) z;
-          schemes = λ b u z. sizes_with b true u p q t c n scope G (known b true u) z;
+          sizes = λ b u k z. sizes_with b false u p q t c n scope G (known b false u k) z;
+          schemes = λ b u k z. sizes_with b true u p q t c n scope G (known b true u k) z;
           none_open = none_open_with p q t c n closed G none_open;
           finds = λ d i. by_form d (split d i);
           finds_types = λ v i. types_still p q G v ∙ types_found v i;
         }
           where
-            by_form : (d : Free) → Named_by N p t d ⊎ (((G.finds d ≡ true) × Not_there q (q + pattern_numbers p) d) ⊎ Is_const d) → ((with_names s p q G).finds d ≡ true) ⊎ Is_const d
+            by_form : (d : Free) → Named_by N p t d ⊎ (((G.finds d ≡ true) × No_name_of (names p) d) ⊎ Is_const d) → ((with_names s p q G).finds d ≡ true) ⊎ Is_const d
             by_form d (inl y) = inl (found_named p q l t n G d y)
-            by_form d (inr (inl y)) = inl (found_still p q l G d y.1 y.0)
+            by_form d (inr (inl y)) = inl (found_still p q G d y.1 y.0)
             by_form d (inr (inr y)) = inr y
 
-      module _ (In : Free → Type 0) (Vars : Variable → Type 0) (p : FlatPattern) (q : ℕ) (l : Plain_pattern types home K places p q) (t : Size) (c : Has_parts N p t) (n : Nodes N p q t s) (scope : Scope) (G : Context) where
+      module _ (bs : List ℕ) (In : Free → Type 0) (Vars : Variable → Type 0) (p : FlatPattern) (q : ℕ) (l : Plain_pattern types home K places p q) (t : Size) (c : Has_parts N p t) (n : Nodes N p q t s) (scope : Scope) (G : Context) where
         pub judged_with : ((b : ℕ) → In (Name b) → At_home types home K places q (q + pattern_numbers p) b → ⊥)
-            → ((d : Free) → In' d → In d ⊎ (Stands_there home q (q + pattern_numbers p) t d ⊎ (Named_by N p t d ⊎ Is_const d))) → ((v : Variable) → Vars' v → Vars v ⊎ (has_hole t v ≡ true))
-            → ((b : ℕ) (g : Bool) (u : Size) → is_among (names p) b ≡ false → scope b ≡ Some (record { size = u; is_general = g }) → named_in b g u g G ≡ Some u) → None_open G → Each_hole Any_variable t
+            → ((d : Free) → In' d → In d ⊎ (Stands_there (names p) t d ⊎ (Named_by N p t d ⊎ Is_const d))) → ((v : Variable) → Vars' v → Vars v ⊎ (has_hole t v ≡ true))
+            → ((b : ℕ) (g : Bool) (u : Size) → is_among bs b ≡ false → is_among (names p) b ≡ false → scope b ≡ Some (record { size = u; is_general = g }) → named_in b g u g G ≡ Some u) → None_open G → Each_hole Any_variable t
             → ((d : Free) → In d → (G.finds d ≡ true) ⊎ Is_const d) → ((v : Variable) → Vars v → G.finds_types v ≡ true)
-            → Judged In' Vars' (bound_scope N p t scope) (with_pattern s p q G)
-        judged_with apart split split_types known none_open closed finds types_found = judged_names p q l t c n scope (with_entered (s q) G) known none_open closed (λ d i. by_form d (split d i)) (λ v i. types_here v (split_types v i))
+            → Judged_but bs In' Vars' (bound_scope N p t scope) (with_pattern s p q G)
+        judged_with apart split split_types known none_open closed finds types_found = judged_names bs p q l t c n scope (with_entered (s q) G) known none_open closed (λ d i. by_form d (split d i)) (λ v i. types_here v (split_types v i))
           where
             standing : (d : Free) → stands t d ≡ true → stands (s q) d || (stands_told (s q) d || G.finds d) ≡ true
             standing d y = or_first (stands (s q) d) (stands_told (s q) d || G.finds d) (ap (λ u. stands u d) (first_node N p q t s n) ∙ y)
 
-            of_before : (d : Free) → In d → (G.finds d ≡ true) ⊎ Is_const d → Named_by N p t d ⊎ ((((with_entered (s q) G).finds d ≡ true) × Not_there q (q + pattern_numbers p) d) ⊎ Is_const d)
-            of_before d i (inl y) = inr (inl (or_later (stands (s q) d) (stands_told (s q) d || G.finds d) (or_later (stands_told (s q) d) (G.finds d) y), λ b z w. apart b (subst In z i) w))
+            of_before : (d : Free) → In d → (G.finds d ≡ true) ⊎ Is_const d → Named_by N p t d ⊎ ((((with_entered (s q) G).finds d ≡ true) × No_name_of (names p) d) ⊎ Is_const d)
+            of_before d i (inl y) = inr (inl (or_later (stands (s q) d) (stands_told (s q) d || G.finds d) (or_later (stands_told (s q) d) (G.finds d) y), no_name_by_home types home K places N p q l d (λ b z w. apart b (subst In z i) w)))
             of_before d i (inr y) = inr (inr y)
 
-            by_form : (d : Free) → In d ⊎ (Stands_there home q (q + pattern_numbers p) t d ⊎ (Named_by N p t d ⊎ Is_const d)) → Named_by N p t d ⊎ ((((with_entered (s q) G).finds d ≡ true) × Not_there q (q + pattern_numbers p) d) ⊎ Is_const d)
+            by_form : (d : Free) → In d ⊎ (Stands_there (names p) t d ⊎ (Named_by N p t d ⊎ Is_const d)) → Named_by N p t d ⊎ ((((with_entered (s q) G).finds d ≡ true) × No_name_of (names p) d) ⊎ Is_const d)
             by_form d (inl i) = of_before d i (finds d i)
-            by_form d (inr (inl y)) = inr (inl (standing d y.0, λ b z w. y.1 b z w))
+            by_form d (inr (inl y)) = inr (inl (standing d y.0, y.1))
             by_form d (inr (inr (inl y))) = inl y
             by_form d (inr (inr (inr y))) = inr (inr y)
 

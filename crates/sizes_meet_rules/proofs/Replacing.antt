@@ -3,7 +3,7 @@ use Rattle.std.proofs.Common.{◌≡◌, ℕ, suc, Bool, true, false, cond, nat_
 use Rattle.fut_types.specs.declared.Head.TheVariants as head
 use Rattle.fut_types.specs.Types.{Made, none, more, fun_ty}
 use Rattle.sized_types.specs.Sizes.{Free, Const, Name, Own, Unknown, Slot, Dim, At, Bound, Variable, Size, Hole, Open, Level, Built, Fun, Sizes, no_size, size_and, erased, all_erased, is_free, replaced, all_replaced, renaming, renamed}
-use Rattle.fut_sizes.specs.Suiting.{Each, Each_all}
+use Rattle.fut_sizes.specs.Suiting.{Each, Each_all, Scoped}
 use Rattle.fut_sizes.specs.Rules.{Each_hole, Each_holes}
 
 -- ---- one dim or another
@@ -194,3 +194,24 @@ module _ (ρ : Free → Free) (same : (d : Free) → ρ d ≡ d) where
 
   pub not_renamed : (t : Size) → renamed ρ t ≡ t
   not_renamed t = not_replaced (renaming ρ) t 0 (each_same t 0)
+
+-- ---- two ways to rename that are one for these sizes
+
+module _ (ρ σ : Free → Free) (P : Free → Type 0) (same : (d : Free) → P d → ρ d ≡ σ d) where
+  mutual
+    unfolding Each Each_all replaced all_replaced
+
+    renamed_there : (t : Size) (j : ℕ) → Each (Scoped P) j t → replaced (renaming ρ) j t ≡ replaced (renaming σ) j t
+    renamed_there (Hole v) j h = refl
+    renamed_there (Open n v u) j h = refl
+    renamed_there (Level (At d) t) j h = ap (λ x. Level (At x) (replaced (renaming ρ) j t)) (same d h.0) ∙ ap (Level (At (σ d))) (renamed_there t j h.1)
+    renamed_there (Level (Bound k i) t) j h = ap (Level (Bound k i)) (renamed_there t j h.1)
+    renamed_there (Built k ts) j h = ap (Built k) (all_renamed_there ts j h)
+    renamed_there (Fun k p r) j h = ap (λ x. Fun k x (replaced (renaming ρ) (suc j) r)) (renamed_there p (suc j) h.0) ∙ ap (Fun k (replaced (renaming σ) (suc j) p)) (renamed_there r (suc j) h.1)
+
+    all_renamed_there : (ts : Sizes) (j : ℕ) → Each_all (Scoped P) j ts → all_replaced (renaming ρ) j ts ≡ all_replaced (renaming σ) j ts
+    all_renamed_there no_size j h = refl
+    all_renamed_there (size_and t ts) j h = ap (λ x. size_and x (all_replaced (renaming ρ) j ts)) (renamed_there t j h.0) ∙ ap (size_and (replaced (renaming σ) j t)) (all_renamed_there ts j h.1)
+
+  pub renamed_as : (t : Size) → Each (Scoped P) 0 t → renamed ρ t ≡ renamed σ t
+  renamed_as t h = renamed_there t 0 h

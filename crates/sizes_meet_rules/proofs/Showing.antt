@@ -15,7 +15,7 @@ use Rattle.fut_typing.specs.Typing.{Typed}
 use Rattle.sized_types.specs.Sizes.{Free, Name, Variable, Size}
 use Rattle.fut_sizes.specs.Applications.{Part}
 use Rattle.fut_sizes.specs.Matching.{nothing_found, counted}
-use Rattle.fut_sizes.specs.Scopes.{Scope, Taken, taken, bound_at, bound_by}
+use Rattle.fut_sizes.specs.Scopes.{Scope, Taken, taken, bound_by}
 use Rattle.fut_sizes.specs.Sizing.{finished, sized}
 use Rattle.fut_sizes.specs.Steps.{State, Done}
 use Rattle.sizes_meet_rules.specs.Known.{Known_names, Elsewhere}
@@ -39,13 +39,10 @@ numbers_some (If c a b) = omega arith
 numbers_some (Loop mark sizes p first turns body) = omega arith
 
 -- what a pattern that names no sizes takes
-pub bound_there : (N : Names) (unmet at : ℕ) (p : FlatPattern) (t : Size) (scope : Scope) (k : Taken) → bound_at N [] unmet at p t scope ≡ Ok k → taken N [] at p t (record { scope = scope; found = counted 0 nothing_found }) ≡ Ok k
-bound_there N unmet at p t scope k e =
-    let x1 = then_ok (taken N [] at p t (record { scope = scope; found = counted 0 nothing_found })) e in x1.done ∙ x1.rest
-
 pub bound_ran : (N : Names) (at : ℕ) (p : FlatPattern) (t : Size) (scope : Scope) (k : Taken) → bound_by N [] at p t scope ≡ Ok k → taken N [] at p t (record { scope = scope; found = counted 0 nothing_found }) ≡ Ok k
 unfolding bound_by
-bound_ran N at p t scope k e = bound_there N at at p t scope k e
+bound_ran N at p t scope k e =
+    let x1 = then_ok (taken N [] at p t (record { scope = scope; found = counted 0 nothing_found })) e in x1.done ∙ x1.rest
 
 module _ (N : Names) (types : Sub) (home : ℕ → ℕ) (K : Kinds) (places : Kind) where
   abbrev pub Law_of : FlatTerm → Type 1

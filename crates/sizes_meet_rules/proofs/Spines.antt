@@ -4,6 +4,7 @@ use Rattle.std.specs.Prelude.{length}
 use Rattle.std.proofs.lemmas.Bool.{ne_eqb}
 use Rattle.fut_scalar.specs.declared.place.BindId.{BindId}
 use Rattle.fut_scalar.specs.declared.place.Place.{Place}
+use Rattle.fut_flat.specs.declared.prim.Primitive.{Primitive}
 use Rattle.fut_flat.specs.declared.prim.Ref.TheVariants as ref
 use Rattle.fut_flat.specs.Numbers.{numbers}
 use Rattle.fut_flat.specs.Terms.{Integer, Use, Strict, Apply, no_term}
@@ -19,7 +20,8 @@ use Rattle.fut_sizes.specs.Applications.{Later, Argument, Early, Part, Applied, 
 use Rattle.fut_sizes.specs.Functions.{is_slot, unknown_slot}
 use Rattle.fut_sizes.specs.Matching.{Found, nothing_found, found_size, read, Opened, none_opened, dim_in, in_opened}
 use Rattle.fut_sizes.specs.Rules.{Each_hole, Outside, Away, Is_value, Applies, Sized}
-use Rattle.fut_sizes.specs.Scopes.{Scope}
+use Rattle.fut_sizes.specs.Primitives.{prim_size, is_regular}
+use Rattle.fut_sizes.specs.Scopes.{Scope, used}
 use Rattle.fut_typing.specs.Primitives.{i64_ty}
 use Rattle.fut_sizes.specs.Scoping.{is_number, Context}
 use Rattle.fut_sizes.specs.Sizing.{finished, as_argument, with_argument, sized}
@@ -28,7 +30,7 @@ use Rattle.fut_sizes.specs.Suiting.{Each, Scoped, Of_positions, Data, Suits, sui
 use Rattle.sizes_meet_rules.specs.Known.{Formed, Says, Known_name, Known_names, Judged, Elsewhere}
 use Rattle.sizes_meet_rules.specs.Plain.{number_ty, Plain_argument, Plain_spine}
 use Rattle.sizes_meet_rules.proofs.Applying.{function_is, Function_size, no_arrow, number_size, read_twice, or_unknown, Argument_meets, argument_meets, Value_known, value_is_known}
-use Rattle.sizes_meet_rules.proofs.Chains.{number_value, Meant, step_in, Given, early, arguments, Takes_all, frame, here, opened_by, after, wants, laters, last_opened, last_size, last_goes, last_found, All_data, Matched_ran, matched_ran, last_next, own_maker, last_slots, All_plain, Reads, Kept, met_all}
+use Rattle.sizes_meet_rules.proofs.Chains.{number_value, Meant, step_in, Given, early, arguments, Takes_all, frame, here, opened_by, after, wants, laters, last_opened, last_size, last_goes, last_found, All_data, Matched_ran, last_next, own_maker, last_slots, All_plain, Reads, Kept, met_all}
 use Rattle.sizes_meet_rules.proofs.Entering.{param_data}
 use Rattle.sizes_meet_rules.proofs.Forming.{number_typed, formed_replaced}
 use Rattle.sizes_meet_rules.proofs.Frames.{Okay, more, none_meant, by_itself, Frames, pushed, pushed_as, fill, fill_keeps, filled, filled_same, opened_filled, filled_says, not_filled, Framed}
@@ -38,9 +40,11 @@ use Rattle.sizes_meet_rules.proofs.Noting.{within_avoids, Placed, placed_order, 
 use Rattle.sizes_meet_rules.proofs.Operating.{number_is}
 use Rattle.sizes_meet_rules.proofs.Reading.{found_settled}
 use Rattle.sizes_meet_rules.proofs.Replacing.{erased_replaced, hole_replaced, hole_as}
-use Rattle.sizes_meet_rules.proofs.Settling.{Any_variable}
+use Rattle.sizes_meet_rules.proofs.Settling.{Is_settled, Any_variable}
 use Rattle.sizes_meet_rules.proofs.Showing.{numbers_some, Law_of}
-use Rattle.sizes_meet_rules.proofs.Using.{use_is, use_rules}
+use Rattle.sizes_meet_rules.proofs.Using.{use_is}
+use Rattle.sizes_meet_rules.proofs.Heads.{a_name, a_primitive, Head, Resolved, resolved}
+use Rattle.sizes_meet_rules.proofs.Filling.{Fit_all}
 
 abbrev pub spine : FlatTerm → List Given → FlatTerm
 spine f [] = f
@@ -396,21 +400,18 @@ module _ (N : Names) (types : Sub) (home : ℕ → ℕ) (K : Kinds) (places : Ki
 
   -- ---- a name and its arguments
 
-  abbrev a_name : BindId → Place → ℕ → FlatTerm
-  a_name b at j = Use (ref.Bound b) at j
-
   pub record Spine (In : Free → Type 0) (Vars : Variable → Type 0) (scope : Scope) (f : FlatTerm) (lo : ℕ) (st : State) (d : Done Part) : Type 0 where
-    pub bind : BindId
-    pub place : Place
-    pub number : ℕ
+    pub term : FlatTerm
+    pub some : 1 ≤ numbers term
+    pub size : Size
+    pub regular : Bool
     pub type : Ty
     pub given : List Given
-    pub name : Known_name In Vars types home scope bind.0 type
-    pub used : type ≡ types (home bind.0)
     pub typed : type ≡ arrows_of types given (types lo)
-    pub is : f ≡ spine (a_name bind place number) given
-    pub part : d.result ≡ Applied name.size false (arguments given)
-    pub placed : Placed given (lo + length (arguments given) + numbers (a_name bind place number)) (lo + numbers f)
+    pub is : f ≡ spine term given
+    pub head : Head N types home In Vars scope term size type
+    pub part : d.result ≡ Applied size regular (arguments given)
+    pub placed : Placed given (lo + length (arguments given) + numbers term) (lo + numbers f)
     pub meet : All_given In Vars scope given st d.state
 
   abbrev pub Spine_law : FlatTerm → Type 1
@@ -419,15 +420,15 @@ module _ (N : Names) (types : Sub) (home : ℕ → ℕ) (K : Kinds) (places : Ki
   pub use_spine : (b : BindId) (at : Place) (j : ℕ) → Spine_law (Use (ref.Bound b) at j)
   unfolding sized
   use_spine b at j In Vars scope T lo st d pl t known E q = record {
-    bind = b;
-    place = at;
-    number = j;
+    term = a_name b at j;
+    some = omega arith;
+    size = n.size;
+    regular = false;
     type = types lo;
     given = [];
-    name = n;
-    used = pl;
     typed = refl;
     is = refl;
+    head = inl (record { bind = b; place = at; number = j; name = n; used = pl; term_is = refl; whole_is = refl });
     part = ap (λ (x : Done Part). x.result) (sym (same_ok now));
     placed = omega arith;
     meet = ap (λ (x : Done Part). x.state) (sym (same_ok now));
@@ -438,6 +439,26 @@ module _ (N : Names) (types : Sub) (home : ℕ → ℕ) (K : Kinds) (places : Ki
 
       now : ◌≡◌ {A = Answer (Done Part)} (Ok (record { result = whole n.size; state = st })) (Ok d)
       now = ap (λ (o : Size). Ok (record { result = whole o; state = st })) (sym (use_is N types home In Vars scope b (types lo) n lo)) ∙ q
+
+  pub primitive_spine : (p : Primitive) (at : Place) (j : ℕ) → Spine_law (Use (ref.Prim p) at j)
+  unfolding sized
+  primitive_spine p at j In Vars scope T lo st d pl t known E q = record {
+    term = a_primitive p at j;
+    some = omega arith;
+    size = used lo (types lo) (prim_size p);
+    regular = is_regular p;
+    type = types lo;
+    given = [];
+    typed = refl;
+    is = refl;
+    head = inr (record { primitive = p; place = at; number = j; node = lo; given = t.0; typed = t.2; takes = pl.0; flat_there = pl.1; term_is = refl; whole_is = refl });
+    part = ap (λ (x : Done Part). x.result) (sym (same_ok now));
+    placed = omega arith;
+    meet = ap (λ (x : Done Part). x.state) (sym (same_ok now));
+  }
+    where
+      now : ◌≡◌ {A = Answer (Done Part)} (Ok (record { result = Applied (used lo (types lo) (prim_size p)) (is_regular p) []; state = st })) (Ok d)
+      now = q
 
   record Apply_ran (f e : FlatTerm) (lo mid : ℕ) (scope : Scope) (st : State) (d : Done Part) : Type 0 where
     function : Done Part
@@ -458,18 +479,18 @@ module _ (N : Names) (types : Sub) (home : ℕ → ℕ) (K : Kinds) (places : Ki
 
   pub apply_spine : (f e : FlatTerm) → Spine_law f → Law_of N types home K places e → Spine_law (Apply f e)
   apply_spine f e lf le In Vars scope T lo st d pl t known E q = record {
-    bind = S.bind;
-    place = S.place;
-    number = S.number;
+    term = S.term;
+    some = S.some;
+    size = S.size;
+    regular = S.regular;
     type = S.type;
     given = S.given ++ g ∷ [];
-    name = S.name;
-    used = S.used;
+    head = S.head;
     typed = S.typed ∙ ap (arrows_of types S.given) t.1 ∙ sym (arrows_snoc types S.given g (types lo));
-    is = ap (λ h. Apply h e) S.is ∙ sym (spine_snoc (a_name S.bind S.place S.number) S.given g);
-    part = ap (λ (x : Done Part). x.result) after_is ∙ ap (Applied S.name.size false) (ap (λ a. arguments S.given ++ a ∷ []) X.is_early ∙ sym (arguments_snoc S.given g));
-    placed = subst (λ m. Placed (S.given ++ g ∷ []) (lo + m + numbers (a_name S.bind S.place S.number)) (lo + numbers (Apply f e))) (sym (length_snoc S.given g))
-        (placed_snoc S.given g (lo + suc (length (arguments S.given)) + numbers (a_name S.bind S.place S.number)) (1 + lo + numbers f) (lo + numbers (Apply f e)) (subst (λ m. Placed S.given m (1 + lo + numbers f)) (omega arith) S.placed) refl (omega arith));
+    is = ap (λ h. Apply h e) S.is ∙ sym (spine_snoc S.term S.given g);
+    part = ap (λ (x : Done Part). x.result) after_is ∙ ap (Applied S.size S.regular) (ap (λ a. arguments S.given ++ a ∷ []) X.is_early ∙ sym (arguments_snoc S.given g));
+    placed = subst (λ m. Placed (S.given ++ g ∷ []) (lo + m + numbers S.term) (lo + numbers (Apply f e))) (sym (length_snoc S.given g))
+        (placed_snoc S.given g (lo + suc (length (arguments S.given)) + numbers S.term) (1 + lo + numbers f) (lo + numbers (Apply f e)) (subst (λ m. Placed S.given m (1 + lo + numbers f)) (omega arith) S.placed) refl (omega arith));
     meet = subst (λ x. All_given In Vars scope (S.given ++ g ∷ []) st x) (ap (λ (x : Done Part). x.state) (sym after_is)) (given_snoc In Vars scope S.given g st R.function.state R.argument.state S.meet (record { value_is = X.value_is; inner = X.inner; noted = X.here; plain = pl.0; value_known = value_is_known N types home K places data_places e (1 + lo + numbers f) In Vars scope T known t.0.1; kind = pl.1 }));
   }
     where
@@ -489,7 +510,7 @@ module _ (N : Names) (types : Sub) (home : ℕ → ℕ) (K : Kinds) (places : Ki
       g : Given
       g = record { node = 1 + lo + numbers f; value = X.value; named = X.named; size = X.size; term = e }
 
-      after_is : d ≡ record { result = Applied S.name.size false (arguments S.given ++ R.argument.result ∷ []); state = R.argument.state }
+      after_is : d ≡ record { result = Applied S.size S.regular (arguments S.given ++ R.argument.result ∷ []); state = R.argument.state }
       after_is = sym (same_ok (ap (λ p. with_argument N types p R.argument.result R.argument.state) (sym S.part) ∙ R.gives))
 
   -- ---- it is applied to all of them
@@ -519,11 +540,14 @@ module _ (N : Names) (types : Sub) (home : ℕ → ℕ) (K : Kinds) (places : Ki
     abbrev gs : List Given
     gs = S.given
 
+    R : Resolved N types home In Vars scope S.term S.size S.type
+    R = resolved N types home In Vars scope S.term S.size S.type S.head
+
     abbrev t : Size
-    t = S.name.size
+    t = R.size
 
     abbrev first : ℕ
-    first = lo + length (arguments gs) + numbers (a_name S.bind S.place S.number)
+    first = lo + length (arguments gs) + numbers S.term
 
     abbrev hi : ℕ
     hi = lo + numbers f
@@ -531,17 +555,17 @@ module _ (N : Names) (types : Sub) (home : ℕ → ℕ) (K : Kinds) (places : Ki
     from_lo : lo ≤ first
     from_lo = omega arith
 
-    head_some : 1 ≤ numbers (a_name S.bind S.place S.number)
-    head_some = numbers_some (a_name S.bind S.place S.number)
+    head_some : 1 ≤ numbers S.term
+    head_some = S.some
 
     room : first ≤ hi
     room = placed_order gs first hi S.placed
 
     size_typed : erased t ≡ arrows_of types gs (types lo)
-    size_typed = S.name.typed (λ g. S.used) ∙ S.typed
+    size_typed = R.typed ∙ S.typed
 
     takes : Takes_all gs t
-    takes = takes_all In Vars scope gs t (types lo) st d.state lo refl kind S.name.says.formed size_typed S.meet
+    takes = takes_all In Vars scope gs t (types lo) st d.state lo refl kind R.says.formed size_typed S.meet
 
     abbrev Known_in : Free → Type 0
     Known_in x = With_met In first hi x
@@ -550,10 +574,17 @@ module _ (N : Names) (types : Sub) (home : ℕ → ℕ) (K : Kinds) (places : Ki
     known_settled x = met_settled N types home In lo hi first hi E x
 
     any_holes : Each_hole Any_variable t
-    any_holes = hole_as Vars Any_variable (λ v i. tt) t S.name.says.variables
+    any_holes = hole_as Vars Any_variable (λ v i. tt) t R.says.variables
+
+    plain_given : All_plain lo In Known_in E.no_slot known_settled gs
+    plain_given = all_plain In Vars scope lo first hi E from_lo gs st d.state first (omega arith) S.placed S.meet
+
+    fit : (xs : List Given) → All_plain lo In Known_in E.no_slot known_settled xs → Fit_all xs
+    fit [] h = tt
+    fit (g ∷ xs) h = ((h.0.0, h.0.1, each_scoped Known_in Is_settled known_settled g.size 0 h.0.2), fit xs h.1)
 
     M : Matched_ran lo N types gs t d.state u
-    M = matched_ran lo N types false gs t d.state u takes (all_data In Vars scope lo first hi E from_lo gs st d.state S.meet) (ap (λ p. finished N types lo p d.state) (sym S.part) ∙ q)
+    M = R.ran lo S.regular gs d.state u takes (all_data In Vars scope lo first hi E from_lo gs st d.state S.meet) (fit gs plain_given) (ap (λ p. finished N types lo p d.state) (sym S.part) ∙ q)
 
     abbrev τ : Found
     τ = M.found
@@ -565,13 +596,10 @@ module _ (N : Names) (types : Sub) (home : ℕ → ℕ) (K : Kinds) (places : Ki
     unframed j i l = absurd l
 
     meant : Each (Okay In none_meant) 0 t
-    meant = by_itself In t S.name.says.sizes
-
-    plain_given : All_plain lo In Known_in E.no_slot known_settled gs
-    plain_given = all_plain In Vars scope lo first hi E from_lo gs st d.state first (omega arith) S.placed S.meet
+    meant = by_itself In t R.says.sizes
 
     matched : Reads lo In Known_in E.no_slot known_settled gs none_opened t nothing_found τ × Kept lo In Known_in E.no_slot known_settled (last_found lo gs t nothing_found) τ
-    matched = met_all lo In Known_in E.no_slot known_settled gs none_opened t nothing_found none_meant no_frames unframed takes meant S.name.says.formed plain_given (last_found lo gs t nothing_found) τ M.met
+    matched = met_all lo In Known_in E.no_slot known_settled gs none_opened t nothing_found none_meant no_frames unframed takes meant R.says.formed plain_given (last_found lo gs t nothing_found) τ M.met
 
     slots : (i : ℕ) → (τ.size i ≡ Slot i) ⊎ Known_in (τ.size i)
     slots = matched.1.slots (last_slots lo In Known_in E.no_slot known_settled gs t nothing_found (λ i. inl refl))
@@ -629,7 +657,7 @@ module _ (N : Names) (types : Sub) (home : ℕ → ℕ) (K : Kinds) (places : Ki
           ∙ noting_other N types τ all_laters d.state.nodes x (both_avoid N types τ x (laters lo gs none_opened t nothing_found) (uses (wants lo gs none_opened t nothing_found)) (laters_avoid N types τ lo gs none_opened t nothing_found x (omega (arith, l, a))) v)
 
       stages_here : Unnamed N types τ lo In E.no_slot gs s → Stages N types τ lo In E.no_slot gs no_frames t nothing_found s
-      stages_here unnamed = (stages N types τ lo In E.no_slot Known_in known_settled gs none_opened t nothing_found none_meant no_frames unframed takes meant S.name.says.formed any_holes plain_given matched.0 s
+      stages_here unnamed = (stages N types τ lo In E.no_slot Known_in known_settled gs none_opened t nothing_found none_meant no_frames unframed takes meant R.says.formed any_holes plain_given matched.0 s
           (right_first N types τ (laters lo gs none_opened t nothing_found) (uses (wants lo gs none_opened t nothing_found)) s right_here) (right_later N types τ (laters lo gs none_opened t nothing_found) (uses (wants lo gs none_opened t nothing_found)) s right_here) unnamed
           (let a = room in let b = head_some in agrees lo (omega arith) (omega (arith, a, b)) ∙ node_here ∙ ap (renamed (unknown_slot τ.maker)) read_again.0)).0
 
@@ -641,10 +669,10 @@ module _ (N : Names) (types : Sub) (home : ℕ → ℕ) (K : Kinds) (places : Ki
         let a = head_some in
         let nodes = nodes_here s agrees in
         let staged = stages_here s agrees nodes.0 in
-        let at_head : s (here lo gs) ≡ t = stage_here In Vars scope lo first hi E from_lo τ slots gs no_frames t nothing_found s takes staged ∙ not_filled In (ended N types τ lo no_frames) t S.name.says.sizes in
+        let at_head : s (here lo gs) ≡ t = stage_here In Vars scope lo first hi E from_lo τ slots gs no_frames t nothing_found s takes staged ∙ not_filled In (ended N types τ lo no_frames) t R.says.sizes in
         subst (λ h. Sized N types s home h lo G) (sym S.is)
-        (rules_all In Vars scope lo first hi E from_lo τ slots s G J room gs no_frames none_meant t nothing_found (a_name S.bind S.place S.number) st d.state first takes meant S.name.says.formed (λ j i l. absurd l) (omega (arith, a)) (omega arith) refl S.placed S.meet makers staged nodes.1
-        (use_rules N types home In Vars scope S.bind S.type S.name S.place S.number (here lo gs) s G J at_head))
+        (rules_all In Vars scope lo first hi E from_lo τ slots s G J room gs no_frames none_meant t nothing_found S.term st d.state first takes meant R.says.formed (λ j i l. absurd l) (omega (arith, a)) (omega arith) refl S.placed S.meet makers staged nodes.1
+        (R.rule (here lo gs) s G J at_head))
 
     no_more : (x : ℕ) → (x < lo) ⊎ (hi ≤ x) → lo ≡ x → ⊥
     no_more x (inl l) z = omega (arith, l, z)
@@ -659,7 +687,7 @@ module _ (N : Names) (types : Sub) (home : ℕ → ℕ) (K : Kinds) (places : Ki
     above x (inr l) = inr l
 
     last : Last_says In Vars scope lo first hi E from_lo τ slots (types lo) (u.state.nodes lo)
-    last = last_says In Vars scope lo first hi E from_lo τ slots gs no_frames none_meant t nothing_found st d.state first (types lo) takes meant S.name.says.variables S.name.says.formed size_typed (λ j i l. absurd l) room (let a = head_some in omega (arith, a)) S.placed S.meet makers u.state.nodes
+    last = last_says In Vars scope lo first hi E from_lo τ slots gs no_frames none_meant t nothing_found st d.state first (types lo) takes meant R.says.variables R.says.formed size_typed (λ j i l. absurd l) room (let a = head_some in omega (arith, a)) S.placed S.meet makers u.state.nodes
         (stages_here u.state.nodes (λ x l l'. refl) (nodes_here u.state.nodes (λ x l l'. refl)).0)
 
     result_here : u.state.nodes lo ≡ u.result
@@ -684,21 +712,26 @@ module _ (N : Names) (types : Sub) (home : ℕ → ℕ) (K : Kinds) (places : Ki
     is : arguments gs ≡ argument ∷ others
     some : Nonempty gs
 
-  some_given : (f e : FlatTerm) (b : BindId) (at : Place) (j : ℕ) (gs : List Given) → Apply f e ≡ spine (a_name b at j) gs → First gs
-  some_given f e b at j [] z = absurd (let y : Apply f e ≡ Use (ref.Bound b) at j = z in cc)
-  some_given f e b at j (g ∷ gs) z = record { argument = early g; others = arguments gs; is = refl; some = tt }
+  some_given : (f e h : FlatTerm) (gs : List Given) → (Apply f e ≡ h → ⊥) → Apply f e ≡ spine h gs → First gs
+  some_given f e h [] n z = absurd (n z)
+  some_given f e h (g ∷ gs) n z = record { argument = early g; others = arguments gs; is = refl; some = tt }
 
   pub apply_part : (f e : FlatTerm) → Spine_law (Apply f e) → Law_of N types home K places (Apply f e)
   apply_part f e law In Vars scope T lo st d pl t known E q = inr (inr (record {
-    function = S.name.size;
+    function = S.size;
+    regular = S.regular;
     argument = F.argument;
     others = F.others;
-    is_applied = S.part ∙ ap (Applied S.name.size false) F.is;
+    is_applied = S.part ∙ ap (Applied S.size S.regular) F.is;
     by_itself = λ u z. spine_meets In Vars scope (Apply f e) lo st d S E pl.0 F.some u z;
   }))
     where
       S : Spine In Vars scope (Apply f e) lo st d
       S = law In Vars scope T lo st d pl.1 t known E q
 
+      no_apply : Head N types home In Vars scope S.term S.size S.type → Apply f e ≡ S.term → ⊥
+      no_apply (inl H) z = let y : Apply f e ≡ Use (ref.Bound H.bind) H.place H.number = z ∙ H.term_is in cc
+      no_apply (inr H) z = let y : Apply f e ≡ Use (ref.Prim H.primitive) H.place H.number = z ∙ H.term_is in cc
+
       F : First S.given
-      F = some_given f e S.bind S.place S.number S.given S.is
+      F = some_given f e S.term S.given (no_apply S.head) S.is

@@ -1,5 +1,6 @@
 -- What the pass does with a pattern of names, parts and written types: the scope behind it, and the nodes that it notes.
-use Rattle.std.proofs.Common.{◌≡◌, ◌⊎◌, ℕ, ◌+◌, ◌<◌, ◌≤◌, List, [], ◌∷◌, ◌++◌, Bool, true, false, cond, nat_eq, zero, suc, Option, Some, None, Ok, Err, refl, sym, ap, ◌∙◌, subst, arith, inl, inr, eqb-true}
+use Rattle.std.proofs.Common.{◌≡◌, ◌⊎◌, ℕ, ◌+◌, ◌<◌, ◌≤◌, List, [], ◌∷◌, ◌++◌, Bool, true, false, cond, nat_eq, zero, suc, Option, Some, None, Ok, Err, refl, sym, ap, ◌∙◌, subst, arith, inl, inr, eqb-true, eq-eqb}
+use Rattle.std.proofs.lemmas.Bool.{ne_eqb}
 use Rattle.fut_scalar.specs.declared.place.BindId.{BindId}
 use Rattle.fut_flat.specs.declared.prim.Ref.{Ref}
 use Rattle.fut_flat.specs.declared.prim.Ref.TheVariants as ref
@@ -243,6 +244,50 @@ Field_has N p o = Of_part o (λ u. Has_parts N p u)
 abbrev pub field_bound : Names → FlatPattern → Option Size → Scope → Scope
 field_bound N p o scope = part_bound o (λ u inner. bound_scope N p u inner) scope
 
+-- a name that is none of the pattern's is what it was
+pub first_not : (xs ys : List ℕ) (b : ℕ) → is_among (xs ++ ys) b ≡ false → is_among xs b ≡ false
+first_not [] ys b e = refl
+first_not (x ∷ xs) ys b e = by_name (nat_eq b x) (first_not xs ys b) e
+  where
+    by_name : (c : Bool) → (is_among (xs ++ ys) b ≡ false → is_among xs b ≡ false) → cond c true (is_among (xs ++ ys) b) ≡ false → cond c true (is_among xs b) ≡ false
+    by_name true go e = e
+    by_name false go e = go e
+
+pub later_not : (xs ys : List ℕ) (b : ℕ) → is_among (xs ++ ys) b ≡ false → is_among ys b ≡ false
+later_not [] ys b e = e
+later_not (x ∷ xs) ys b e = by_name (nat_eq b x) (later_not xs ys b) e
+  where
+    by_name : (c : Bool) → (is_among (xs ++ ys) b ≡ false → is_among ys b ≡ false) → cond c true (is_among (xs ++ ys) b) ≡ false → is_among ys b ≡ false
+    by_name true go e = absurd (let z : true ≡ false = e in cc)
+    by_name false go e = go e
+
+module _ (N : Names) where
+  mutual
+    pub not_bound : (p : FlatPattern) (t : Size) (b : ℕ) (scope : Scope) → is_among (names p) b ≡ false → bound_scope N p t scope b ≡ scope b
+    not_bound (Bound_pattern x) t b scope e = ap (λ c. cond c (Some (record { size = t; is_general = false })) (scope b)) (ne_eqb x.0 b (λ z. let w : true ≡ false = sym (ap (λ c. cond c true false) (eq-eqb b x.0 (sym z))) ∙ e in cc))
+    not_bound Wild_pattern t b scope e = refl
+    not_bound (Tuple_pattern ps) (Built h ts) b scope e = no_part_bound ps ts b scope e
+    not_bound (Tuple_pattern ps) (Hole v) b scope e = refl
+    not_bound (Tuple_pattern ps) (Open n v u) b scope e = refl
+    not_bound (Tuple_pattern ps) (Level d t) b scope e = refl
+    not_bound (Tuple_pattern ps) (Fun k p r) b scope e = refl
+    not_bound (Record_pattern fs ps) t b scope e = no_field_bound fs ps t b scope e
+    not_bound (Typed_pattern p x) t b scope e = not_bound p t b scope e
+
+    no_part_bound : (ps : Patterns Ref BindId) (ts : Sizes) (b : ℕ) (scope : Scope) → is_among (all_names ps) b ≡ false → parts_bound N ps ts scope b ≡ scope b
+    no_part_bound no_pattern ts b scope e = refl
+    no_part_bound (pattern_and p ps) no_size b scope e = refl
+    no_part_bound (pattern_and p ps) (size_and t ts) b scope e = no_part_bound ps ts b (bound_scope N p t scope) (later_not (names p) (all_names ps) b e) ∙ not_bound p t b scope (first_not (names p) (all_names ps) b e)
+
+    no_field_bound : (ls : List Text) (ps : Patterns Ref BindId) (t : Size) (b : ℕ) (scope : Scope) → is_among (all_names ps) b ≡ false → fields_bound N ls ps t scope b ≡ scope b
+    no_field_bound [] ps t b scope e = refl
+    no_field_bound (l ∷ ls) no_pattern t b scope e = refl
+    no_field_bound (l ∷ ls) (pattern_and p ps) t b scope e = no_field_bound ls ps t b (part_bound (part_of N l t) (λ u inner. bound_scope N p u inner) scope) (later_not (names p) (all_names ps) b e) ∙ one_field (part_of N l t) (λ u. not_bound p u b scope (first_not (names p) (all_names ps) b e))
+      where
+        one_field : (o : Option Size) → ((u : Size) → bound_scope N p u scope b ≡ scope b) → part_bound o (λ u inner. bound_scope N p u inner) scope b ≡ scope b
+        one_field (Some u) go = go u
+        one_field None go = refl
+
 -- each node of a pattern has the sized type of its part
 abbrev mutual
   pub Nodes : Names → FlatPattern → ℕ → Size → (ℕ → Size) → Type 0
@@ -358,7 +403,7 @@ module _ (types : Sub) (home : ℕ → ℕ) (K : Kinds) (places : Kind) where
     names_home (Record_pattern fs ps) q h c e = let w = all_names_home ps (1 + q) h c e in let x = w.0 in let y = w.1 in (omega (arith, x), omega (arith, y))
     names_home (Typed_pattern p t) q h c e = names_home p q h.1 c e
 
-    all_names_home : (ps : Patterns Ref BindId) (q : ℕ) → Plain_parts types home K places ps q → (c : ℕ) → is_among (all_names ps) c ≡ true → At_home q (q + all_pattern_numbers ps) c
+    pub all_names_home : (ps : Patterns Ref BindId) (q : ℕ) → Plain_parts types home K places ps q → (c : ℕ) → is_among (all_names ps) c ≡ true → At_home q (q + all_pattern_numbers ps) c
     all_names_home no_pattern q h c e = absurd (let y : false ≡ true = e in cc)
     all_names_home (pattern_and p ps) q h c e = by_side (names_home p q h.0 c) (all_names_home ps (q + pattern_numbers p) h.1 c) (among_joined (names p) (all_names ps) c e)
       where

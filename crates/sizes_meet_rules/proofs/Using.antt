@@ -50,7 +50,7 @@ mutual
   all_filled_itself no_size = refl
   all_filled_itself (size_and t ts) = ap (λ x. size_and x (all_filled Hole ts)) (filled_itself t) ∙ ap (size_and t) (all_filled_itself ts)
 
-used_itself : (is_general : Variable → Bool) (t : Size) → Filled_use is_general t t
+pub used_itself : (is_general : Variable → Bool) (t : Size) → Filled_use is_general t t
 unfolding Each Data
 used_itself is_general t = record { types = Hole; data_types = λ v. tt; closed = λ v. tt; others = λ v e. refl; used = inl (subst (λ x. Suits x t) (sym (filled_itself t)) suits_same) }
 

@@ -1,51 +1,52 @@
 -- Each term of these forms meets the rules where it is sized.
-use Rattle.std.proofs.Common.{◌≡◌, ◌⊎◌, ℕ, suc, ◌+◌, ◌<◌, ◌≤◌, List, [], ◌∷◌, ◌++◌, Bool, true, false, Option, Some, None, Ok, refl, sym, ap, ◌∙◌, subst, arith, inl, inr}
+use Rattle.std.proofs.Common.{◌≡◌, ◌⊎◌, ℕ, suc, ◌+◌, ◌<◌, ◌≤◌, List, [], Bool, true, false, Option, Ok, refl, sym, ap, ◌∙◌, subst, arith, inl, inr}
 use Rattle.fut_scalar.specs.declared.place.BindId.{BindId}
 use Rattle.fut_scalar.specs.declared.place.Place.{Place}
+use Rattle.fut_flat.specs.declared.prim.Primitive.{Primitive}
 use Rattle.fut_flat.specs.declared.prim.Ref.{Ref}
 use Rattle.fut_flat.specs.declared.prim.Ref.TheVariants as ref
 use Rattle.fut_flat.specs.Numbers.{pattern_numbers, all_pattern_numbers, own_numbers, numbers, all_numbers, turn_numbers}
-use Rattle.fut_flat.specs.Terms.{Size_term, Size_use, Array_type, Unique_type, Tuple_type, Record_type, Type_terms, no_type, type_and, Coerce, Declared, Bound_pattern, Wild_pattern, Tuple_pattern, Record_pattern, Typed_pattern, Patterns, no_pattern, pattern_and, Parameter, Binding, Operation, Binary, Project, Use, Strict, Lambda, Apply, Let, If, Loop, Terms, no_term, term_and, Counted, Over, While}
+use Rattle.fut_flat.specs.Terms.{Size_term, Size_use, Array_type, Unique_type, Tuple_type, Record_type, Type_terms, no_type, type_and, Coerce, Declared, Patterns, no_pattern, pattern_and, Operation, Binary, Project, Use, Strict, Lambda, Apply, Let, If, Loop, Terms, no_term, term_and, Counted, Over, While}
 use Rattle.fut_flat.specs.Erased.{FlatTerm, FlatType, FlatTurns, FlatPattern}
 use Rattle.fut_types.specs.declared.Kind.{Kind}
-use Rattle.fut_types.specs.Types.{Ty, more, Sub, Kinds, HasKind, rank, level, fun_ty}
-use Rattle.fut_typing.specs.Generalised.{Reused}
+use Rattle.fut_types.specs.Types.{more, Sub, Kinds, HasKind, rank, level, applied}
 use Rattle.fut_typing.specs.Names.{Names}
-use Rattle.fut_typing.specs.Patterns.{pattern_types, arrows, Pattern_typed, with_pattern as typed_with, with_patterns as all_typed_with}
-use Rattle.fut_typing.specs.Scopes.{Uses, Scope as TypeScope, the_one, with_uses}
+use Rattle.fut_typing.specs.Patterns.{pattern_types, arrows, with_patterns as all_typed_with}
+use Rattle.fut_typing.specs.Scopes.{Scope as TypeScope, the_one}
+use Rattle.fut_typing.specs.Primitives.{i64_ty}
 use Rattle.fut_typing.specs.Rules.{Rule, Written}
-use Rattle.fut_typing.specs.Typing.{operand, term_types, let_scheme, Typed, All_typed}
-use Rattle.sized_types.specs.Sizes.{Free, Const, Name, Own, Unknown, Slot, Variable, Size, Fun, Sizes, no_size, size_and, erased, all_erased, levels}
-use Rattle.fut_sizes.specs.Agreeing.{is_among, Answer, kept, leaving}
-use Rattle.fut_sizes.specs.Applications.{Want, Met, Argument, Part, Applied, Waiting, whole}
+use Rattle.fut_typing.specs.Typing.{operand, term_types, Typed, All_typed}
+use Rattle.sized_types.specs.Sizes.{Free, Const, Name, Own, Unknown, Slot, Variable, Size, Sizes, no_size, size_and, erased, all_erased, levels}
+use Rattle.fut_sizes.specs.Agreeing.{is_among, Answer, kept}
+use Rattle.fut_sizes.specs.Applications.{Want, Met, Part, Applied, whole}
 use Rattle.fut_sizes.specs.Operations.{operation}
-use Rattle.fut_sizes.specs.Rules.{Size_found, Sizes_found, All_sizes_found, Compared_found, Each_hole, Outside, Takes, Away, part_sizes, Branches, Sized, All_sized}
-use Rattle.fut_sizes.specs.Compositions.{composition}
-use Rattle.fut_sizes.specs.Scopes.{Scope, names, Taken, bound_by}
-use Rattle.fut_sizes.specs.Scoping.{Context, with_scheme, with_entered}
-use Rattle.fut_sizes.specs.Sizing.{finished, second_noted, has_parameters, with_general, let_scope, pattern_noted, composed_or, wanted_size, all_part_names, leaving_function, all_entered, none_left, matched, parameters_noted, sized, all_sized, turns_sized, turns_from}
-use Rattle.fut_sizes.specs.Steps.{State, Done, Step, give, ask, and_then, note}
+use Rattle.fut_sizes.specs.Primitives.{scalar_size, prim_size}
+use Rattle.fut_sizes.specs.Rules.{Filled_use, Size_found, Sizes_found, All_sizes_found, Compared_found, Outside, Takes, Away, part_sizes, Branches, Sized, All_sized}
+use Rattle.fut_sizes.specs.Scopes.{Scope, used}
+use Rattle.fut_sizes.specs.Scoping.{Context}
+use Rattle.fut_sizes.specs.Sizing.{finished, second_noted, with_head, wanted_size, all_part_names, leaving_function, all_entered, none_left, matched, parameters_noted, sized, all_sized, turns_sized, turns_from}
+use Rattle.fut_sizes.specs.Steps.{State, Done, Step, ask, and_then, note}
 use Rattle.fut_sizes.specs.Suiting.{Each, Scoped, Data}
 use Rattle.sizes_meet_rules.specs.Known.{Says, Is_const, Known_name, Known_names, Judged, Elsewhere}
-use Rattle.sizes_meet_rules.specs.Plain.{Formed_type, Is_lambda, Is_bound, Plain_pattern, Plain_operation, Plain_term, Plain_terms}
-use Rattle.sizes_meet_rules.proofs.Replacing.{hole_as, all_each_as}
+use Rattle.sizes_meet_rules.specs.Plain.{Plain_head, Plain_operation, Plain_term, Plain_terms}
+use Rattle.sizes_meet_rules.proofs.Replacing.{all_each_as}
 use Rattle.sizes_meet_rules.proofs.Forming.{data_of, erased_kept, formed_kept, variables_kept, sizes_kept}
-use Rattle.sizes_meet_rules.proofs.Meeting.{then_ok, asked, same_ok, at_itself, at_another, Met_in, With_met, each_scoped, met_wider, met_settled, met_outside, says_more, says_settled, scoped_as, elsewhere_narrower, away_of, Inner, Meets, Part_meets, function_knows}
-use Rattle.sizes_meet_rules.proofs.Showing.{own_some, numbers_some, Law_of, alone, bound_ran, sizes_written}
-use Rattle.sizes_meet_rules.proofs.Looping.{Law_turns, Loop_ran, Loop_meets, loop_meets}
-use Rattle.sizes_meet_rules.proofs.Binding.{leaves, Behind, value_behind, function_behind, behind_elsewhere, any_let_meets, let_meets}
-use Rattle.sizes_meet_rules.proofs.Generalising.{closed_of, with_function, known_general, lambda_arrow, generalised, Behind_function, function_judged}
-use Rattle.sizes_meet_rules.proofs.Taking.{bound_scope, Pattern_ran, name_taken, taken_is, noted_is}
+use Rattle.sizes_meet_rules.proofs.Meeting.{then_ok, asked, same_ok, at_itself, at_another, Met_in, With_met, each_scoped, met_wider, met_outside, says_more, scoped_as, elsewhere_narrower, away_of, Inner, Meets, Part_meets}
+use Rattle.sizes_meet_rules.proofs.Showing.{own_some, numbers_some, Law_of, alone, sizes_written}
+use Rattle.sizes_meet_rules.proofs.Letting.{Law_headed, any_let}
+use Rattle.sizes_meet_rules.proofs.Looping.{Law_turns, scalar_says, Loop_ran, Loop_meets, loop_meets}
+use Rattle.sizes_meet_rules.proofs.Binding.{leaves}
 use Rattle.sizes_meet_rules.proofs.Entering.{takings, all_bound, own_nodes_as, Lambda_ran, lambda_ran}
-use Rattle.sizes_meet_rules.proofs.Applying.{Function_size, function_is}
-use Rattle.sizes_meet_rules.proofs.Spines.{Spine_law, use_spine, apply_spine, apply_part}
+use Rattle.sizes_meet_rules.proofs.Primitives.{Constant, constant_is, constant_used, constant_typed, constant_applied}
+use Rattle.sizes_meet_rules.proofs.Spines.{Spine_law, use_spine, primitive_spine, apply_spine, apply_part}
 use Rattle.sizes_meet_rules.proofs.Parameters.{Rest, all_rest}
+use Rattle.sizes_meet_rules.proofs.Heading.{headless, heads_there, judged_headed, known_headless}
 use Rattle.sizes_meet_rules.proofs.Functions.{Unmet, met_between}
 use Rattle.fut_sizes.specs.Functions.{function_size, unchosen}
-use Rattle.fut_sizes.specs.Matching.{Found, nothing_found, counted}
-use Rattle.sizes_meet_rules.proofs.Naming.{known_with, known_wider, number_name}
-use Rattle.sizes_meet_rules.proofs.Using.{None_there, use_is, use_rules}
-use Rattle.sizes_meet_rules.proofs.Settling.{Any_variable, noted}
+use Rattle.fut_sizes.specs.Matching.{Found}
+use Rattle.sizes_meet_rules.proofs.Naming.{With_head, no_function, number_name}
+use Rattle.sizes_meet_rules.proofs.Using.{use_is, use_rules, used_itself}
+use Rattle.sizes_meet_rules.proofs.Settling.{noted}
 use Rattle.sizes_meet_rules.proofs.Operating.{Size_written, Sizes_written, All_sizes_written, All_say, none_say, more_say, Gives, Written_named, Size_named, Sizes_named, number_is, operation_gives}
 
 second_apart : (lo n : ℕ) → (n < lo) ⊎ (lo + 2 ≤ n) → 1 + lo ≡ n → ⊥
@@ -280,7 +281,7 @@ module _ (N : Names) (types : Sub) (home : ℕ → ℕ) (K : Kinds) (places : Ki
     is_whole = ap (λ (x : Done Part). x.result) (sym (same_ok now));
     inner = subst (λ (x : Done Part). Inner N types home In Vars scope e lo (lo + numbers e) st n.size x.state) (same_ok now) (record {
       says = says_more In (With_met In lo (lo + numbers e)) Vars n.size (λ x i. inl i) n.says;
-      typed = n.typed (λ g. p);
+      typed = n.typed (λ g. by_form g p);
       kept = λ m o. refl;
       dropped = λ m o. refl;
       rules = λ s G J e a. use_rules N types home In Vars scope b (types lo) n at k lo s G J e;
@@ -293,8 +294,36 @@ module _ (N : Names) (types : Sub) (home : ℕ → ℕ) (K : Kinds) (places : Ki
       n : Known_name In Vars types home scope b.0 (types lo)
       n = known b.0 (types lo) t
 
+      -- a number is not general
+      by_form : n.is_general ≡ true → (types lo ≡ types (home b.0)) ⊎ (types lo ≡ i64_ty) → types lo ≡ types (home b.0)
+      by_form g (inl e) = e
+      by_form g (inr e) = let w = n.function g in absurd (no_function w.0 w.1 (sym e ∙ w.2))
+
       now : ◌≡◌ {A = Answer (Done Part)} (Ok (record { result = whole n.size; state = st })) (Ok d)
       now = ap (λ (o : Size). Ok (record { result = whole o; state = st })) (sym (use_is N types home In Vars scope b (types lo) n lo)) ∙ q
+
+  constant_part : (p : Primitive) (at : Place) (k : ℕ) → Law (Use (ref.Prim p) at k)
+  unfolding sized
+  constant_part p at k In Vars scope T lo st d pl t known E q = inl (record {
+    size = scalar_size c.sort;
+    is_whole = ap (λ (x : Done Part). x.result) (sym (same_ok now));
+    inner = subst (λ (x : Done Part). Inner N types home In Vars scope e lo (lo + numbers e) st (scalar_size c.sort) x.state) (same_ok now) (record {
+      says = scalar_says (With_met In lo (lo + numbers e)) Vars c.sort;
+      typed = constant_typed c.sort ∙ sym (constant_applied t.0 c.sort) ∙ ap (applied t.0) (sym c.type_is) ∙ sym t.2;
+      kept = λ m o. refl;
+      dropped = λ m o. refl;
+      rules = λ s G J z a. subst (Filled_use (λ v. true) (prim_size p)) (sym z) (subst (λ x. Filled_use (λ v. true) x (scalar_size c.sort)) (sym c.size_is) (used_itself (λ v. true) (scalar_size c.sort)));
+    });
+  })
+    where
+      e : FlatTerm
+      e = Use (ref.Prim p) at k
+
+      c : Constant p
+      c = constant_is p pl
+
+      now : ◌≡◌ {A = Answer (Done Part)} (Ok (record { result = whole (scalar_size c.sort); state = st })) (Ok d)
+      now = ap (λ (x : Size). Ok (record { result = whole x; state = st })) (sym (ap (used lo (types lo)) c.size_is ∙ constant_used lo (types lo) c.sort)) ∙ ap (λ (b : Bool). Ok (record { result = Applied (used lo (types lo) (prim_size p)) b []; state = st })) (sym c.regular) ∙ q
 
   if_part : (c a b : FlatTerm) → Law c → Law a → Law b → Law (If c a b)
   unfolding sized
@@ -377,330 +406,15 @@ module _ (N : Names) (types : Sub) (home : ℕ → ℕ) (K : Kinds) (places : Ki
         inner = subst (λ (x : Done Part). Inner N types home In Vars scope (Strict o mark ts) lo hi st x2.first.result x.state) (same_ok x3.rest) (subst (λ n. Inner N types home In Vars scope (Strict o mark ts) lo n st x2.first.result x3.first.state) last I);
       })
 
-  -- ---- lets
-
-  abbrev lambda_waits : Patterns Ref BindId → FlatTerm → ℕ → Scope → Option Want → Found → Step Met
-  lambda_waits ps e lo scope w σ = and_then (ask (all_entered N types lo ps (1 + lo) (record { scope = scope; parameters = []; wanted = wanted_size w; found = σ }))) (λ E. and_then (ask (none_left N types (1 + lo + all_pattern_numbers ps) (unchosen [] E.parameters))) (λ z. and_then (parameters_noted N types E.parameters) (λ y.
-      and_then (sized N types e [] (1 + lo + all_pattern_numbers ps) E.scope) (λ part. and_then (finished N types (1 + lo + all_pattern_numbers ps) part) (λ body. and_then (ask (leaving_function lo (all_part_names ps) E.parameters body)) (λ r.
-      and_then (note lo (function_size [] lo (1 + lo + all_pattern_numbers ps + numbers e) E.parameters r)) (λ own. ask (matched N types lo w own E.found))))))))
-
-  pub lambda_waiting : (v : FlatTerm) → Is_lambda v → (lo : ℕ) (scope : Scope) (st : State) (d : Done Part) → sized N types v [] lo scope st ≡ Ok d → (f : Option Want → Found → Step Met) × (d.result ≡ Waiting f)
-  unfolding sized
-  lambda_waiting (Lambda (pattern_and x xs) e) i lo scope st d q = (lambda_waits (pattern_and x xs) e lo scope, ap (λ (x : Done Part). x.result) (sym (same_ok q)))
-  lambda_waiting v i lo scope st d q = absurd i
-
-  not_composed : (o : Option Bool) (F : Bool → Step Part) (g : Step Part) (st : State) (d : Done Part) → o ≡ None → composed_or N types o F g st ≡ Ok d → g st ≡ Ok d
-  not_composed None F g st d e q = q
-  not_composed (Some b) F g st d e q = absurd (let z : Some b ≡ None = e in cc)
-
-  abbrev a_let : Bool → FlatPattern → Binding Ref BindId
-  a_let f p = record { sizes = []; parameters = []; is_function = f; pattern = p }
-
-  let_bound : (p : FlatPattern) (at : ℕ) (t : Size) (scope inner : Scope) → let_scope N types (a_let false p) at t scope ≡ Ok inner → (k : Taken) × (bound_by N [] at p t scope ≡ Ok k) × (inner ≡ k.scope)
-  let_bound p at t scope inner e = let x1 = then_ok (bound_by N [] at p t scope) e in (x1.first, x1.done, sym (same_ok x1.rest))
-
-  -- the steps of a let
-  record Let_ran (f : Bool) (p : FlatPattern) (v e : FlatTerm) (lo : ℕ) (scope : Scope) (st : State) (d : Done Part) : Type 0 where
-    value_part : Done Part
-    value : Done Size
-    inner : Scope
-    pattern : Done (Unit {0})
-    body_part : Done Part
-    body : Done Size
-    left : Size
-    value_sized : sized N types v [] (1 + lo + pattern_numbers p) scope st ≡ Ok value_part
-    value_done : finished N types (1 + lo + pattern_numbers p) value_part.result value_part.state ≡ Ok value
-    scope_is : let_scope N types (a_let f p) (1 + lo + pattern_numbers p) value.result scope ≡ Ok inner
-    pattern_is : pattern_noted N types p (1 + lo) value.result value.state ≡ Ok pattern
-    body_sized : sized N types e [] (1 + lo + pattern_numbers p + numbers v) inner pattern.state ≡ Ok body_part
-    body_done : finished N types (1 + lo + pattern_numbers p + numbers v) body_part.result body_part.state ≡ Ok body
-    leaving_is : leaving lo (names p ++ []) body.result ≡ Ok left
-    gives : ◌≡◌ {A = Answer (Done Part)} (Ok (record { result = whole left; state = body.state })) (Ok d)
-
-  -- behind the value
-  abbrev let_rest : FlatPattern → FlatTerm → ℕ → ℕ → Size → Scope → Step Part
-  let_rest p e lo at t inner = and_then (pattern_noted N types p (1 + lo) t) (λ y. and_then (sized N types e [] at inner) (λ part. and_then (finished N types at part) (λ u. and_then (ask (leaving lo (names p ++ []) u)) (λ r. give (whole r)))))
-
-  abbrev let_inner : Bool → FlatPattern → FlatTerm → ℕ → ℕ → ℕ → Scope → Size → Step Part
-  let_inner f p e lo mid at scope t = and_then (ask (let_scope N types (a_let f p) mid t scope)) (λ inner. let_rest p e lo at t inner)
-
-  record Value_ran (f : Bool) (p : FlatPattern) (v e : FlatTerm) (lo mid at : ℕ) (scope : Scope) (st : State) (d : Done Part) : Type 0 where
-    value_part : Done Part
-    value : Done Size
-    value_sized : sized N types v [] mid scope st ≡ Ok value_part
-    value_done : finished N types mid value_part.result value_part.state ≡ Ok value
-    rest : let_inner f p e lo mid at scope value.result value.state ≡ Ok d
-
-  value_ran : (f : Bool) (p : FlatPattern) (v e : FlatTerm) (lo : ℕ) (scope : Scope) (st : State) (d : Done Part) → composition (a_let f p) e ≡ None → sized N types (Let (a_let f p) v e) [] lo scope st ≡ Ok d → Value_ran f p v e lo (1 + lo + pattern_numbers p) (1 + lo + pattern_numbers p + numbers v) scope st d
-  unfolding sized
-  value_ran f p v e lo scope st d c q0 =
-      let q = not_composed (composition (a_let f p) e) _ _ st d c q0 in
-      let x1 = then_ok (ask (has_parameters N types [] v (1 + lo + pattern_numbers p)) st) q in
-      let x2 = then_ok (sized N types v [] (1 + lo + pattern_numbers p) scope x1.first.state) x1.rest in
-      let x3 = then_ok (finished N types (1 + lo + pattern_numbers p) x2.first.result x2.first.state) x2.rest in
-      record {
-        value_part = x2.first;
-        value = x3.first;
-        value_sized = ap (sized N types v [] (1 + lo + pattern_numbers p) scope) (sym (asked (has_parameters N types [] v (1 + lo + pattern_numbers p)) st x1.first x1.done).state) ∙ x2.done;
-        value_done = x3.done;
-        rest = x3.rest;
-      }
-
-  record Inner_ran (f : Bool) (p : FlatPattern) (e : FlatTerm) (lo mid at : ℕ) (scope : Scope) (t : Size) (st : State) (d : Done Part) : Type 0 where
-    inner : Scope
-    scope_is : let_scope N types (a_let f p) mid t scope ≡ Ok inner
-    rest : let_rest p e lo at t inner st ≡ Ok d
-
-  inner_ran : (f : Bool) (p : FlatPattern) (e : FlatTerm) (lo mid at : ℕ) (scope : Scope) (t : Size) (st : State) (d : Done Part) → let_inner f p e lo mid at scope t st ≡ Ok d → Inner_ran f p e lo mid at scope t st d
-  inner_ran f p e lo mid at scope t st d q =
-      let x1 = then_ok (ask (let_scope N types (a_let f p) mid t scope) st) q in
-      let a1 = asked (let_scope N types (a_let f p) mid t scope) st x1.first x1.done in
-      record { inner = x1.first.result; scope_is = a1.answer; rest = ap (let_rest p e lo at t x1.first.result) (sym a1.state) ∙ x1.rest }
-
-  record Body_ran (p : FlatPattern) (e : FlatTerm) (lo at : ℕ) (inner : Scope) (t : Size) (st : State) (d : Done Part) : Type 0 where
-    pattern : Done (Unit {0})
-    body_part : Done Part
-    body : Done Size
-    pattern_is : pattern_noted N types p (1 + lo) t st ≡ Ok pattern
-    body_sized : sized N types e [] at inner pattern.state ≡ Ok body_part
-    body_done : finished N types at body_part.result body_part.state ≡ Ok body
-    rest : and_then (ask (leaving lo (names p ++ []) body.result)) (λ r. give (whole r)) body.state ≡ Ok d
-
-  body_ran : (p : FlatPattern) (e : FlatTerm) (lo at : ℕ) (inner : Scope) (t : Size) (st : State) (d : Done Part) → let_rest p e lo at t inner st ≡ Ok d → Body_ran p e lo at inner t st d
-  body_ran p e lo at inner t st d q =
-      let x1 = then_ok (pattern_noted N types p (1 + lo) t st) q in
-      let x2 = then_ok (sized N types e [] at inner x1.first.state) x1.rest in
-      let x3 = then_ok (finished N types at x2.first.result x2.first.state) x2.rest in
-      record { pattern = x1.first; body_part = x2.first; body = x3.first; pattern_is = x1.done; body_sized = x2.done; body_done = x3.done; rest = x3.rest }
-
-  left_ran : (lo : ℕ) (xs : List ℕ) (u : Size) (st : State) (d : Done Part) → and_then (ask (leaving lo xs u)) (λ r. give (whole r)) st ≡ Ok d → (r : Size) × (leaving lo xs u ≡ Ok r) × (◌≡◌ {A = Answer (Done Part)} (Ok (record { result = whole r; state = st })) (Ok d))
-  left_ran lo xs u st d q =
-      let x1 = then_ok (ask (leaving lo xs u) st) q in
-      let a1 = asked (leaving lo xs u) st x1.first x1.done in
-      (x1.first.result, a1.answer, ap (λ w. Ok (record { result = whole x1.first.result; state = w })) (sym a1.state) ∙ x1.rest)
-
-  let_ran : (f : Bool) (p : FlatPattern) (v e : FlatTerm) (lo : ℕ) (scope : Scope) (st : State) (d : Done Part) → composition (a_let f p) e ≡ None → sized N types (Let (a_let f p) v e) [] lo scope st ≡ Ok d → Let_ran f p v e lo scope st d
-  let_ran f p v e lo scope st d c q = record {
-    value_part = V.value_part;
-    value = V.value;
-    inner = I.inner;
-    pattern = B.pattern;
-    body_part = B.body_part;
-    body = B.body;
-    left = L.0;
-    value_sized = V.value_sized;
-    value_done = V.value_done;
-    scope_is = I.scope_is;
-    pattern_is = B.pattern_is;
-    body_sized = B.body_sized;
-    body_done = B.body_done;
-    leaving_is = L.1;
-    gives = L.2;
-  }
-    where
-      V : Value_ran f p v e lo (1 + lo + pattern_numbers p) (1 + lo + pattern_numbers p + numbers v) scope st d
-      V = value_ran f p v e lo scope st d c q
-
-      I : Inner_ran f p e lo (1 + lo + pattern_numbers p) (1 + lo + pattern_numbers p + numbers v) scope V.value.result V.value.state d
-      I = inner_ran f p e lo (1 + lo + pattern_numbers p) (1 + lo + pattern_numbers p + numbers v) scope V.value.result V.value.state d V.rest
-
-      B : Body_ran p e lo (1 + lo + pattern_numbers p + numbers v) I.inner V.value.result V.value.state d
-      B = body_ran p e lo (1 + lo + pattern_numbers p + numbers v) I.inner V.value.result V.value.state d I.rest
-
-      L : (r : Size) × (leaving lo (names p ++ []) B.body.result ≡ Ok r) × (◌≡◌ {A = Answer (Done Part)} (Ok (record { result = whole r; state = B.body.state })) (Ok d))
-      L = left_ran lo (names p ++ []) B.body.result B.body.state d B.rest
-
-  module _ (f : Bool) (p : FlatPattern) (v e : FlatTerm) (lv : Law v) (le : Law e) (In : Free → Type 0) (Vars : Variable → Type 0) (scope : Scope) (T : TypeScope) (lo mid at hi : ℕ) (m1 : 1 + lo + pattern_numbers p ≡ mid) (m2 : mid + numbers v ≡ at) (m3 : at + numbers e ≡ hi) (st : State) (d : Done Part) (R : Let_ran f p v e lo scope st d) where
-    let_value : Plain_term types home K places N v mid → Typed N places v mid T K types → Known_names In Vars home scope K types T → Elsewhere N types home lo hi In → lo ≤ mid → Meets N types home In Vars scope v mid at st R.value.result R.value.state
-    let_value pl t k E l = subst (λ n. Meets N types home In Vars scope v mid n st R.value.result R.value.state) m2 (alone N types home K places v lv In Vars scope T mid st R.value_part R.value pl t k (narrower In lo hi mid (mid + numbers v) l (omega (arith, m2, m3)) E)
-        (ap (λ n. sized N types v [] n scope st) (sym m1) ∙ R.value_sized) (ap (λ n. finished N types n R.value_part.result R.value_part.state) (sym m1) ∙ R.value_done))
-
-    value_data : HasKind K places (types mid) → Meets N types home In Vars scope v mid at st R.value.result R.value.state → Data R.value.result
-    value_data k X = data_of K R.value.result X.says.formed (let r : level places ≤ rank K (erased R.value.result) = subst (λ w. level places ≤ rank K w) (sym X.typed) k in omega (arith, r, data_places))
-
-    function_value : Is_lambda v → Plain_term types home K places N v mid → Typed N places v mid T K types → Known_names In Vars home scope K types T → Elsewhere N types home lo hi In → lo ≤ mid → Each (Scoped (λ x. In x ⊎ Is_const x)) 0 R.value.result
-    function_value i pl t k E l = by_part (lv In Vars scope T mid st R.value_part pl t k (narrower In lo hi mid (mid + numbers v) l (omega (arith, m2, m3)) E) value_sized)
-      where
-        value_sized : sized N types v [] mid scope st ≡ Ok R.value_part
-        value_sized = ap (λ n. sized N types v [] n scope st) (sym m1) ∙ R.value_sized
-
-        waits : (f : Option Want → Found → Step Met) × (R.value_part.result ≡ Waiting f)
-        waits = lambda_waiting v i mid scope st R.value_part value_sized
-
-        not_applied : (x : Size) (b : Bool) (xs : List Argument) → R.value_part.result ≡ Applied x b xs → ⊥
-        not_applied x b xs e = let z : Waiting waits.0 ≡ Applied x b xs = sym waits.1 ∙ e in cc
-
-        by_part : Part_meets N types home In Vars scope v mid (mid + numbers v) st R.value_part.result R.value_part.state → Each (Scoped (λ x. In x ⊎ Is_const x)) 0 R.value.result
-        by_part (inl W) = absurd (not_applied W.size false [] W.is_whole)
-        by_part (inr (inl W)) = function_knows N types home In Vars scope v mid (mid + numbers v) st R.value_part.result R.value_part.state R.value W (ap (λ n. finished N types n R.value_part.result R.value_part.state) (sym m1) ∙ R.value_done)
-        by_part (inr (inr W)) = absurd (not_applied W.function false (W.argument ∷ W.others) W.is_applied)
-
-  module _ (p : FlatPattern) (v e : FlatTerm) (lv : Law v) (le : Law e) (In : Free → Type 0) (Vars : Variable → Type 0) (scope : Scope) (T : TypeScope) (lo mid at hi : ℕ) (m1 : 1 + lo + pattern_numbers p ≡ mid) (m2 : mid + numbers v ≡ at) (m3 : at + numbers e ≡ hi) (st : State) (d : Done Part) (R : Let_ran false p v e lo scope st d) where
-    module _ (plain : Plain_pattern types home K places p (1 + lo)) (S : TypeScope) (fits : Pattern_typed N places K types p (1 + lo) S) (l2 : mid < at) (l3 : at < hi) (E : Elsewhere N types home lo hi In) where
-      abbrev B : (k : Taken) × (bound_by N [] (1 + lo + pattern_numbers p) p R.value.result scope ≡ Ok k) × (R.inner ≡ k.scope)
-      B = let_bound p (1 + lo + pattern_numbers p) R.value.result scope R.inner R.scope_is
-
-      let_taken : Meets N types home In Vars scope v mid at st R.value.result R.value.state → Data R.value.result → types (1 + lo) ≡ types mid → Pattern_ran types home K places N p R.value.result (record { scope = scope; found = counted 0 nothing_found }) B.0
-      let_taken X is_data t1 = let settled = says_settled (With_met In mid at) Vars R.value.result (met_settled N types home In lo hi mid at E) X.says in
-          taken_is types home K places N (1 + lo + pattern_numbers p) p (1 + lo) S plain fits R.value.result is_data X.says.formed settled.0 settled.1 (X.typed ∙ sym t1) (record { scope = scope; found = counted 0 nothing_found }) B.0 (bound_ran N (1 + lo + pattern_numbers p) p R.value.result scope B.0 B.1)
-
-      abbrev In' : Free → Type 0
-      In' d = Behind N types home K places In Vars scope p R.value.result lo (1 + lo) mid at hi d
-
-      let_body : Meets N types home In Vars scope v mid at st R.value.result R.value.state → Says In' Vars R.value.result → types (1 + lo) ≡ types mid → Known_names In Vars home scope K types T
-          → Pattern_ran types home K places N p R.value.result (record { scope = scope; found = counted 0 nothing_found }) B.0
-          → Plain_term types home K places N e at → Typed N places e at (typed_with the_one p (1 + lo) T) K types
-          → Meets N types home In' Vars (bound_scope N p R.value.result scope) e at hi R.pattern.state R.body.result R.body.state
-      let_body X says t1 k P pl t = subst (λ n. Meets N types home In' Vars (bound_scope N p R.value.result scope) e at n R.pattern.state R.body.result R.body.state) m3
-          (alone N types home K places e le In' Vars (bound_scope N p R.value.result scope) (typed_with the_one p (1 + lo) T) at R.pattern.state R.body_part R.body pl t known
-          (subst (λ n. Elsewhere N types home at n In') (sym m3) (behind_elsewhere N types home K places In Vars scope p R.value.result lo (1 + lo) mid at hi plain (omega arith) (omega (arith, m1, l2)) (omega (arith, l3)) E))
-          (ap (λ w. sized N types e [] at w R.pattern.state) (sym inner) ∙ ap (λ n. sized N types e [] n R.inner R.pattern.state) now ∙ R.body_sized) (ap (λ n. finished N types n R.body_part.result R.body_part.state) now ∙ R.body_done))
-        where
-          known : Known_names In' Vars home (bound_scope N p R.value.result scope) K types (typed_with the_one p (1 + lo) T)
-          known = known_with N types K places In' Vars home In Vars (λ w i. inl i) (λ w i. i) p (1 + lo) S plain fits R.value.result P.parts scope T k
-              says (X.typed ∙ sym t1) (λ w i. inr (inr i))
-
-          inner : R.inner ≡ bound_scope N p R.value.result scope
-          inner = B.2 ∙ P.scope
-
-          now : at ≡ 1 + lo + pattern_numbers p + numbers v
-          now = sym m2 ∙ ap (λ n. n + numbers v) (sym m1)
-
-      let_known : HasKind K places (types mid) ⊎ (Is_lambda v × Is_bound p) → Meets N types home In Vars scope v mid at st R.value.result R.value.state → types (1 + lo) ≡ types mid → Known_names In Vars home scope K types T
-          → Plain_term types home K places N v mid → Typed N places v mid T K types → Pattern_ran types home K places N p R.value.result (record { scope = scope; found = counted 0 nothing_found }) B.0 × Says In' Vars R.value.result
-      let_known (inl kind) X t1 k pv tv = let is_data = value_data false p v e lv le In Vars scope T lo mid at hi m1 m2 m3 st d R kind X in (let_taken X is_data t1, value_behind N types home K places In Vars scope p R.value.result lo (1 + lo) mid at hi X.says is_data)
-      let_known (inr w) X t1 k pv tv = (
-        name_taken types home K places N (1 + lo + pattern_numbers p) p w.1 R.value.result (record { scope = scope; found = counted 0 nothing_found }) B.0 (bound_ran N (1 + lo + pattern_numbers p) p R.value.result scope B.0 B.1),
-        function_behind N types home K places In Vars scope p R.value.result lo (1 + lo) mid at hi X.says (function_value false p v e lv le In Vars scope T lo mid at hi m1 m2 m3 st d R w.0 pv tv k E (omega (arith, m1))),
-      )
-
-      let_whole : HasKind K places (types mid) ⊎ (Is_lambda v × Is_bound p) → types (1 + lo) ≡ types mid → types lo ≡ types at → Known_names In Vars home scope K types T
-          → Plain_term types home K places N v mid → Typed N places v mid T K types → Plain_term types home K places N e at → Typed N places e at (typed_with the_one p (1 + lo) T) K types
-          → Inner N types home In Vars scope (Let (a_let false p) v e) lo hi st R.left R.body.state
-      let_whole kind t1 t2 k pv tv pe te =
-          let X = let_value false p v e lv le In Vars scope T lo mid at hi m1 m2 m3 st d R pv tv k E (omega (arith, m1)) in
-          let P = let_known kind X t1 k pv tv in
-          let_meets N types home K places In Vars scope p R.value.result lo mid at hi plain P.0.parts m1 l2 l3 E v e [] false st R.value.state R.pattern.state R.body.state R.body.result R.left m2 m3 t2
-          (noted_is types home K places N p (1 + lo) plain R.value.result P.0.parts R.value.state R.pattern R.pattern_is) (leaves lo (names p ++ []) R.body.result R.left R.leaving_is) X (let_body X P.1 t1 k P.0 pe te)
-
-  let_part : (p : FlatPattern) (v e : FlatTerm) → Law v → Law e → Law (Let (a_let false p) v e)
-  let_part p v e lv le In Vars scope T lo st d pl t k E q = inl (record {
-    size = R.left;
-    is_whole = ap (λ (x : Done Part). x.result) (sym (same_ok R.gives));
-    inner = subst (λ (x : Done Part). Inner N types home In Vars scope (Let (a_let false p) v e) lo (lo + numbers (Let (a_let false p) v e)) st R.left x.state) (same_ok R.gives)
-        (subst (λ n. Inner N types home In Vars scope (Let (a_let false p) v e) lo n st R.left R.body.state) (sym last) I);
-  })
-    where
-      R : Let_ran false p v e lo scope st d
-      R = let_ran false p v e lo scope st d pl.1 q
-
-      last : lo + numbers (Let (a_let false p) v e) ≡ 1 + lo + pattern_numbers p + numbers v + numbers e
-      last = omega arith
-
-      I : Inner N types home In Vars scope (Let (a_let false p) v e) lo (1 + lo + pattern_numbers p + numbers v + numbers e) st R.left R.body.state
-      I = let_whole p v e lv le In Vars scope T lo (1 + lo + pattern_numbers p) (1 + lo + pattern_numbers p + numbers v) (1 + lo + pattern_numbers p + numbers v + numbers e) refl refl refl st d R pl.0 T t.0.0.0.0
-          (let n = numbers_some v in omega (arith, n)) (let n = numbers_some e in omega (arith, n)) (subst (λ n. Elsewhere N types home lo n In) last E)
-          pl.2 t.0.0.1 t.1 k pl.3 t.0.0.0.1 pl.4 t.0.1
-
-  -- ---- a function under a name
-
-  module _ (x : BindId) (v e : FlatTerm) (lv : Law v) (le : Law e) (In : Free → Type 0) (Vars : Variable → Type 0) (scope : Scope) (T : TypeScope) (lo mid at hi : ℕ) (m1 : 1 + lo + 1 ≡ mid) (m2 : mid + numbers v ≡ at) (m3 : at + numbers e ≡ hi) (st : State) (d : Done Part) (R : Let_ran true (Bound_pattern x) v e lo scope st d) (plain : home x.0 ≡ 1 + lo) (lambda : Is_lambda v) (formed : Formed_type (types (1 + lo)))
-      (pv : Plain_term types home K places N v mid) (tv : Typed N places v mid T K types) (t1 : types (1 + lo) ≡ types mid) (known : Known_names In Vars home scope K types T) (E : Elsewhere N types home lo hi In) (l2 : mid < at) (l3 : at < hi) (uses : Uses) (arrow : (u : Ty) → uses K types u → (a : Ty) × (c : Ty) × (u ≡ fun_ty a c)) (pe : Plain_term types home K places N e at) (te : Typed N places e at (with_uses x.0 uses T) K types) where
-    X : Meets N types home In Vars scope v mid at st R.value.result R.value.state
-    X = let_value true (Bound_pattern x) v e lv le In Vars scope T lo mid at hi m1 m2 m3 st d R pv tv known E (omega (arith, m1))
-
-    value_arrow : (a : Ty) × (c : Ty) × (types mid ≡ fun_ty a c)
-    value_arrow = lambda_arrow N types home K places types v mid T lambda tv
-
-    F : Function_size R.value.result value_arrow.0 value_arrow.1
-    F = function_is R.value.result value_arrow.0 value_arrow.1 X.says.formed (X.typed ∙ value_arrow.2)
-
-    abbrev size : Size
-    size = Fun F.chosen F.from F.to
-
-    abbrev Function_in : Free → Type 0
-    Function_in d = Behind_function N types home K places In Vars scope x F.chosen F.from F.to lo (1 + lo) mid at hi d
-
-    abbrev inner : Scope
-    inner = with_function N types K places Function_in Vars home x F.chosen F.from F.to scope
-
-    inner_is : R.inner ≡ inner
-    inner_is = sym (same_ok R.scope_is) ∙ ap (λ w. with_general N types (Bound_pattern x) w scope) F.is_function
-
-    X' : Meets N types home In Vars scope v mid at st size R.value.state
-    X' = subst (λ w. Meets N types home In Vars scope v mid at st w R.value.state) F.is_function X
-
-    closed : Each_hole None_there size
-    closed = closed_of size X'.says.formed (subst Formed_type (t1 ∙ sym X'.typed) formed)
-
-    says : Says Function_in Vars size
-    says = function_behind N types home K places In Vars scope (Bound_pattern x) size lo (1 + lo) mid at hi X'.says (subst (λ w. Each (Scoped (λ y. In y ⊎ Is_const y)) 0 w) F.is_function (function_value true (Bound_pattern x) v e lv le In Vars scope T lo mid at hi m1 m2 m3 st d R lambda pv tv known E (omega (arith, m1))))
-
-    wider_known : Known_names Function_in Vars home scope K types T
-    wider_known b u a = known_wider N types K places Function_in Vars home In Vars (λ y i. inl i) (λ y i. i) scope b u (known b u a)
-
-    body_known : Known_names Function_in Vars home inner K types (with_uses x.0 uses T)
-    body_known = known_general N types K places Function_in Vars home x F.chosen F.from F.to scope T uses says closed (X'.typed ∙ sym t1 ∙ ap types (sym plain)) arrow wider_known
-
-    now : at ≡ 1 + lo + 1 + numbers v
-    now = sym m2 ∙ ap (λ n. n + numbers v) (sym m1)
-
-    Y : Meets N types home Function_in Vars inner e at hi R.pattern.state R.body.result R.body.state
-    Y = subst (λ n. Meets N types home Function_in Vars inner e at n R.pattern.state R.body.result R.body.state) m3
-        (alone N types home K places e le Function_in Vars inner (with_uses x.0 uses T) at R.pattern.state R.body_part R.body pe te body_known
-        (subst (λ n. Elsewhere N types home at n Function_in) (sym m3) (behind_elsewhere N types home K places In Vars scope (Bound_pattern x) size lo (1 + lo) mid at hi plain (omega arith) (omega (arith, m1, l2)) (omega (arith, l3)) E))
-        (ap (λ w. sized N types e [] at w R.pattern.state) (sym inner_is) ∙ ap (λ n. sized N types e [] n R.inner R.pattern.state) now ∙ R.body_sized) (ap (λ n. finished N types n R.body_part.result R.body_part.state) now ∙ R.body_done))
-
-    fresh : In (Name x.0) → ⊥
-    fresh i = E.outside (Name x.0) i (omega (arith, plain), omega (arith, plain, m1, l2, l3))
-
-    function_whole : types lo ≡ types at → Inner N types home In Vars scope (Let (a_let true (Bound_pattern x)) v e) lo hi st R.left R.body.state
-    function_whole t2 = any_let_meets N types home K places In Vars scope (Bound_pattern x) size lo mid at hi plain tt m1 l2 l3 E v e [] true st R.value.state R.pattern.state R.body.state R.body.result R.left m2 m3 t2
-        (noted_is types home K places N (Bound_pattern x) (1 + lo) plain size tt R.value.state R.pattern (ap (λ w. pattern_noted N types (Bound_pattern x) (1 + lo) w R.value.state) (sym F.is_function) ∙ R.pattern_is)) (leaves lo (x.0 ∷ []) R.body.result R.left R.leaving_is) inner X' Y
-        (λ s G J nodes at_value sized_let of_body.
-        let at_pattern : s (1 + lo) ≡ size = nodes in
-        let A = generalised N types home x v lo mid at hi s G lambda J.none_open (at_pattern ∙ sym at_value) sized_let in
-        inr (A, of_body (with_scheme x.0 (s (1 + lo)) A.new (with_entered (s (1 + lo)) G)) (function_judged N types home K places In Vars scope x F.chosen F.from F.to lo (1 + lo) mid at hi s G at_pattern (hole_as None_there Any_variable (λ y i. tt) size closed) A.new fresh J)))
-
-  function_part : (x : BindId) (v e : FlatTerm) → Law v → Law e → Law (Let (a_let true (Bound_pattern x)) v e)
-  function_part x v e lv le In Vars scope T lo st d pl t k E q = inl (record {
-    size = R.left;
-    is_whole = ap (λ (y : Done Part). y.result) (sym (same_ok R.gives));
-    inner = subst (λ (y : Done Part). Inner N types home In Vars scope (Let (a_let true (Bound_pattern x)) v e) lo (lo + numbers (Let (a_let true (Bound_pattern x)) v e)) st R.left y.state) (same_ok R.gives)
-        (subst (λ n. Inner N types home In Vars scope (Let (a_let true (Bound_pattern x)) v e) lo n st R.left R.body.state) (sym last) I);
-  })
-    where
-      R : Let_ran true (Bound_pattern x) v e lo scope st d
-      R = let_ran true (Bound_pattern x) v e lo scope st d pl.1 q
-
-      last : lo + numbers (Let (a_let true (Bound_pattern x)) v e) ≡ 1 + lo + 1 + numbers v + numbers e
-      last = omega arith
-
-      uses : Uses
-      uses = Reused places (let_scheme N places (a_let true (Bound_pattern x)) v lo T (Typed N places v (1 + lo + 1))) (1 + lo)
-
-      arrow : (u : Ty) → uses K types u → (a : Ty) × (c : Ty) × (u ≡ fun_ty a c)
-      arrow u w = let y = lambda_arrow N types home K places w.2.0.other v (1 + lo + 1) T pl.0.2 w.2.0.typed.0.1 in (y.0, y.1, w.2.1 ∙ w.2.0.typed.1 ∙ y.2)
-
-      I : Inner N types home In Vars scope (Let (a_let true (Bound_pattern x)) v e) lo (1 + lo + 1 + numbers v + numbers e) st R.left R.body.state
-      I = function_whole x v e lv le In Vars scope T lo (1 + lo + 1) (1 + lo + 1 + numbers v) (1 + lo + 1 + numbers v + numbers e) refl refl refl st d R pl.0.0 pl.0.2 pl.0.3 pl.3 t.0.0.1.0.0.1 t.0.0.1.0.1 k
-          (subst (λ n. Elsewhere N types home lo n In) last E) (let n = numbers_some v in omega (arith, n)) (let n = numbers_some e in omega (arith, n)) uses arrow pl.4 t.0.1 t.1
-
-  -- of what is bound, in whatever form it is written
-  any_let : (sizes : List BindId) (parameters : List (Parameter BindId)) (is_function : Bool) (p : FlatPattern) (v e : FlatTerm) → Law v → Law e → Law (Let (record { sizes = sizes; parameters = parameters; is_function = is_function; pattern = p }) v e)
-  any_let [] [] false p v e lv le = let_part p v e lv le
-  any_let (x ∷ xs) ps f p v e lv le = λ In Vars scope T lo st d pl t known E q. absurd pl.0
-  any_let [] (x ∷ xs) f p v e lv le = λ In Vars scope T lo st d pl t known E q. absurd pl.0
-  any_let [] [] true (Bound_pattern x) v e lv le = function_part x v e lv le
-  any_let [] [] true Wild_pattern v e lv le = λ In Vars scope T lo st d pl t known E q. absurd pl.0.1
-  any_let [] [] true (Tuple_pattern ps) v e lv le = λ In Vars scope T lo st d pl t known E q. absurd pl.0.1
-  any_let [] [] true (Record_pattern fs ps) v e lv le = λ In Vars scope T lo st d pl t known E q. absurd pl.0.1
-  any_let [] [] true (Typed_pattern p u) v e lv le = λ In Vars scope T lo st d pl t known E q. absurd pl.0.1
-
   -- ---- functions
 
-  module _ (p : FlatPattern) (ps : Patterns Ref BindId) (e : FlatTerm) (le : Law e) (In : Free → Type 0) (Vars : Variable → Type 0) (scope : Scope) (T : TypeScope) (lo : ℕ) (pl : Plain_term types home K places N (Lambda (pattern_and p ps) e) lo) (t : Typed N places (Lambda (pattern_and p ps) e) lo T K types)
-      (known : Known_names In Vars home scope K types T) (at hi : ℕ) (m1 : 1 + lo + all_pattern_numbers (pattern_and p ps) ≡ at) (m2 : at + numbers e ≡ hi) (E : Elsewhere N types home lo hi In) (before : State) (m : Done Met) (R : Lambda_ran N types home K places (pattern_and p ps) e lo at hi scope before m) where
+  abbrev lambda_waits : List ℕ → Patterns Ref BindId → FlatTerm → ℕ → Scope → Option Want → Found → Step Met
+  lambda_waits bs ps e lo scope w σ = and_then (ask (all_entered N types lo ps (1 + lo) (record { scope = scope; parameters = []; wanted = wanted_size w; found = σ }))) (λ E. and_then (ask (none_left N types (1 + lo + all_pattern_numbers ps) (unchosen bs E.parameters))) (λ z. and_then (parameters_noted N types E.parameters) (λ y.
+      and_then (sized N types e [] (1 + lo + all_pattern_numbers ps) E.scope) (λ part. and_then (finished N types (1 + lo + all_pattern_numbers ps) part) (λ body. and_then (ask (leaving_function lo (all_part_names ps) E.parameters body)) (λ r.
+      and_then (note lo (function_size bs lo (1 + lo + all_pattern_numbers ps + numbers e) E.parameters r)) (λ own. ask (matched N types lo w own E.found))))))))
+
+  module _ (bs : List ℕ) (p : FlatPattern) (ps : Patterns Ref BindId) (e : FlatTerm) (le : Law e) (In : Free → Type 0) (Vars : Variable → Type 0) (scope : Scope) (T : TypeScope) (lo : ℕ) (hd : Plain_head types home K places N bs (pattern_and p ps) (1 + lo)) (pl : Plain_term types home K places N (Lambda (pattern_and p ps) e) lo) (t : Typed N places (Lambda (pattern_and p ps) e) lo T K types)
+      (known : Known_names (With_head bs In) Vars home (with_head N types bs scope) K types T) (at hi : ℕ) (m1 : 1 + lo + all_pattern_numbers (pattern_and p ps) ≡ at) (m2 : at + numbers e ≡ hi) (E : Elsewhere N types home lo hi In) (before : State) (m : Done Met) (R : Lambda_ran N types home K places bs (pattern_and p ps) e lo at hi (with_head N types bs scope) before m) where
     abbrev all : Patterns Ref BindId
     all = pattern_and p ps
 
@@ -708,9 +422,9 @@ module _ (N : Names) (types : Sub) (home : ℕ → ℕ) (K : Kinds) (places : Ki
     at_hi = let n = numbers_some e in omega (arith, m2, n)
 
     abbrev lambda_size : Size
-    lambda_size = function_size [] lo hi (takings N types home K places all (1 + lo)) R.left
+    lambda_size = function_size bs lo hi (takings N types home K places all (1 + lo)) R.left
 
-    body_meets : (In' : Free → Type 0) (scope' : Scope) (T' : TypeScope) → Typed N places e at T' K types → Known_names In' Vars home scope' K types T' → Elsewhere N types home at hi In' → scope' ≡ all_bound N types home K places all (1 + lo) scope → Meets N types home In' Vars scope' e at hi R.parameters R.body.result R.body.state
+    body_meets : (In' : Free → Type 0) (scope' : Scope) (T' : TypeScope) → Typed N places e at T' K types → Known_names In' Vars home scope' K types T' → Elsewhere N types home at hi In' → scope' ≡ all_bound N types home K places all (1 + lo) (with_head N types bs scope) → Meets N types home In' Vars scope' e at hi R.parameters R.body.result R.body.state
     body_meets In' scope' T' t' k E' z = subst (λ n. Meets N types home In' Vars scope' e at n R.parameters R.body.result R.body.state) m2
         (alone N types home K places e le In' Vars scope' T' at R.parameters R.part R.body (subst (λ n. Plain_term types home K places N e n) m1 pl.1) t' k (subst (λ n. Elsewhere N types home at n In') (sym m2) E') (ap (λ w. sized N types e [] at w R.parameters) z ∙ R.part_is) R.body_is)
 
@@ -718,9 +432,9 @@ module _ (N : Names) (types : Sub) (home : ℕ → ℕ) (K : Kinds) (places : Ki
     met_inside : Unmet lo hi In
     met_inside n i x y = E.outside (Unknown n i) x (met_between lo hi n i y)
 
-    rest : Rest N types home K places data_places e lo at hi at_hi (all_part_names all) R.body.result R.left (leaves lo (all_part_names all) R.body.result R.left R.leaves.1) R.parameters R.body.state Vars (all_bound N types home K places all (1 + lo) scope) body_meets all (1 + lo) In scope
-    rest = all_rest N types home K places data_places e lo at hi at_hi (all_part_names all) R.body.result R.left (leaves lo (all_part_names all) R.body.result R.left R.leaves.1) R.parameters R.body.state Vars (all_bound N types home K places all (1 + lo) scope) body_meets
-        all (1 + lo) In scope T m1 (omega arith) pl.0 t.0.0 R.fit (λ n i x y. met_inside n i x y) R.leaves.0 (λ b e. e) (subst (λ n. Typed N places e n (all_typed_with the_one all (1 + lo) T) K types) m1 t.0.1) known (narrower In lo hi (1 + lo) hi (omega arith) (omega arith) E) (narrower In lo hi lo (1 + lo) (omega arith) (omega (arith, m1, at_hi)) E) refl
+    rest : Rest N types home K places data_places e lo at hi at_hi (all_part_names all) R.body.result R.left (leaves lo (all_part_names all) R.body.result R.left R.leaves.1) R.parameters R.body.state Vars (all_bound N types home K places all (1 + lo) (with_head N types bs scope)) body_meets bs all (1 + lo) In (with_head N types bs scope)
+    rest = all_rest N types home K places data_places e lo at hi at_hi (all_part_names all) R.body.result R.left (leaves lo (all_part_names all) R.body.result R.left R.leaves.1) R.parameters R.body.state Vars (all_bound N types home K places all (1 + lo) (with_head N types bs scope)) body_meets
+        all bs (1 + lo) In (with_head N types bs scope) T m1 (omega arith) pl.0 hd R.none_left_there (heads_there N types bs scope) t.0.0 R.fit (λ n i x y. met_inside n i x y) R.leaves.0 (λ b e. e) (subst (λ n. Typed N places e n (all_typed_with the_one all (1 + lo) T) K types) m1 t.0.1) known (narrower In lo hi (1 + lo) hi (omega arith) (omega arith) E) (narrower In lo hi lo (1 + lo) (omega arith) (omega (arith, m1, at_hi)) E) refl
 
     node_lo : m.state.nodes lo ≡ lambda_size
     node_lo = ap (λ (x : State). x.nodes lo) R.state ∙ at_itself lo lambda_size R.body.state.nodes
@@ -773,79 +487,88 @@ module _ (N : Names) (types : Sub) (home : ℕ → ℕ) (K : Kinds) (places : Ki
             let here : lambda_size ≡ s lo = sym (a lo (omega arith) (omega (arith, m1, l)) ∙ node_lo) in
             subst (λ w. Takes N types s home (Sized N types s home e (1 + lo + all_pattern_numbers all)) (all_part_names all) all lo (1 + lo) (1 + lo + all_pattern_numbers all) (1 + lo + all_pattern_numbers all + numbers e) w G) here
             (subst (λ n. Takes N types s home (Sized N types s home e n) (all_part_names all) all lo (1 + lo) n (n + numbers e) lambda_size G) (sym m1)
-            (subst (λ n. Takes N types s home (Sized N types s home e at) (all_part_names all) all lo (1 + lo) at n lambda_size G) (sym m2) (rest.rules s G judged own in_body)))
+            (subst (λ n. Takes N types s home (Sized N types s home e at) (all_part_names all) all lo (1 + lo) at n lambda_size G) (sym m2) (rest.rules s G (judged_headed N types bs In Vars scope G judged) own in_body)))
 
-  lambda_part : (p : FlatPattern) (ps : Patterns Ref BindId) (e : FlatTerm) → Law e → Law (Lambda (pattern_and p ps) e)
+  lambda_headed : (p : FlatPattern) (ps : Patterns Ref BindId) (e : FlatTerm) → Law e → Law_headed N types home K places data_places (Lambda (pattern_and p ps) e)
   unfolding sized
-  lambda_part p ps e le In Vars scope T lo st d pl t known E q = inr (inl (record {
-    waiting = lambda_waits (pattern_and p ps) e lo scope;
+  lambda_headed p ps e le bs In Vars scope T lo st d i hd pl t known E q = record {
+    waiting = lambda_waits bs (pattern_and p ps) e lo (with_head N types bs scope);
     is_waiting = ap (λ (x : Done Part). x.result) (sym (same_ok q));
     unchanged = ap (λ (x : Done Part). x.state) (sym (same_ok q));
-    known_sizes = λ before m z. lambda_knows p ps e le In Vars scope T lo pl t known (1 + lo + all_pattern_numbers (pattern_and p ps)) (1 + lo + all_pattern_numbers (pattern_and p ps) + numbers e) refl refl (subst (λ n. Elsewhere N types home lo n In) last E) before m
-        (lambda_ran N types home K places (pattern_and p ps) e lo (1 + lo + all_pattern_numbers (pattern_and p ps)) (1 + lo + all_pattern_numbers (pattern_and p ps) + numbers e) data_places T pl.0 t.0.0 scope before m z);
+    known_sizes = λ before m z. lambda_knows bs p ps e le In Vars scope T lo hd pl t known (1 + lo + all_pattern_numbers (pattern_and p ps)) (1 + lo + all_pattern_numbers (pattern_and p ps) + numbers e) refl refl (subst (λ n. Elsewhere N types home lo n In) last E) before m
+        (lambda_ran N types home K places bs (pattern_and p ps) e lo (1 + lo + all_pattern_numbers (pattern_and p ps)) (1 + lo + all_pattern_numbers (pattern_and p ps) + numbers e) data_places T pl.0 t.0.0 (with_head N types bs scope) before m z);
     of_function = (types (1 + lo), (arrows (pattern_types types ps (1 + lo + pattern_numbers p)) (types (1 + lo + all_pattern_numbers (pattern_and p ps))), t.1));
     by_itself = λ before m z. subst (λ n. Meets N types home In Vars scope (Lambda (pattern_and p ps) e) lo n before m.result.size m.state) (sym last)
-        (lambda_meets p ps e le In Vars scope T lo pl t known (1 + lo + all_pattern_numbers (pattern_and p ps)) (1 + lo + all_pattern_numbers (pattern_and p ps) + numbers e) refl refl (subst (λ n. Elsewhere N types home lo n In) last E) before m
-        (lambda_ran N types home K places (pattern_and p ps) e lo (1 + lo + all_pattern_numbers (pattern_and p ps)) (1 + lo + all_pattern_numbers (pattern_and p ps) + numbers e) data_places T pl.0 t.0.0 scope before m z));
-  }))
+        (lambda_meets bs p ps e le In Vars scope T lo hd pl t known (1 + lo + all_pattern_numbers (pattern_and p ps)) (1 + lo + all_pattern_numbers (pattern_and p ps) + numbers e) refl refl (subst (λ n. Elsewhere N types home lo n In) last E) before m
+        (lambda_ran N types home K places bs (pattern_and p ps) e lo (1 + lo + all_pattern_numbers (pattern_and p ps)) (1 + lo + all_pattern_numbers (pattern_and p ps) + numbers e) data_places T pl.0 t.0.0 (with_head N types bs scope) before m z));
+  }
     where
       last : lo + numbers (Lambda (pattern_and p ps) e) ≡ 1 + lo + all_pattern_numbers (pattern_and p ps) + numbers e
       last = omega arith
 
+  lambda_part : (p : FlatPattern) (ps : Patterns Ref BindId) (e : FlatTerm) → Law e → Law (Lambda (pattern_and p ps) e)
+  lambda_part p ps e le In Vars scope T lo st d pl t known E q = inr (inl (lambda_headed p ps e le [] In Vars scope T lo st d tt (headless types home K places N (pattern_and p ps) (1 + lo)) pl t (known_headless N types home K places In Vars scope T known) E q))
+
   -- ---- loops
 
-  abbrev a_loop : Place → FlatPattern → FlatTerm → FlatTurns → FlatTerm → FlatTerm
-  a_loop mark p first turns body = Loop mark [] p first turns body
+  abbrev a_loop : List BindId → Place → FlatPattern → FlatTerm → FlatTurns → FlatTerm → FlatTerm
+  a_loop sizes mark p first turns body = Loop mark sizes p first turns body
 
-  loop_ran : (mark : Place) (p : FlatPattern) (first : FlatTerm) (turns : FlatTurns) (body : FlatTerm) (lo : ℕ) (scope : Scope) (st : State) (d : Done Part) → sized N types (a_loop mark p first turns body) [] lo scope st ≡ Ok d
-      → Loop_ran N types home K places data_places p first turns body lo (1 + lo + pattern_numbers p) (1 + lo + pattern_numbers p + numbers first) (1 + lo + pattern_numbers p + numbers first + turn_numbers turns) (1 + lo + pattern_numbers p + numbers first + turn_numbers turns + numbers body) refl refl refl refl scope st d
+  loop_ran : (sizes : List BindId) (mark : Place) (p : FlatPattern) (first : FlatTerm) (turns : FlatTurns) (body : FlatTerm) (lo : ℕ) (scope : Scope) (st : State) (d : Done Part) → sized N types (a_loop sizes mark p first turns body) [] lo scope st ≡ Ok d
+      → Loop_ran N types home K places data_places sizes p first turns body lo (1 + lo + pattern_numbers p) (1 + lo + pattern_numbers p + numbers first) (1 + lo + pattern_numbers p + numbers first + turn_numbers turns) (1 + lo + pattern_numbers p + numbers first + turn_numbers turns + numbers body) refl refl refl refl scope st d
   unfolding sized
-  loop_ran mark p first turns body lo scope st d q =
+  loop_ran sizes mark p first turns body lo scope st d q =
       let x1 = then_ok (sized N types first [] (1 + lo + pattern_numbers p) scope st) q in
       let x2 = then_ok (finished N types (1 + lo + pattern_numbers p) x1.first.result x1.first.state) x1.rest in
       let x3 = then_ok (turns_sized N types turns (1 + lo + pattern_numbers p + numbers first) scope x2.first.state) x2.rest in
       let x4 = then_ok (turns_from N types (suc (levels x2.first.result)) lo x2.first.result _ x3.first.state) x3.rest in
       record { part = x1.first; value = x2.first; each = x3.first; last = x4.first; part_is = x1.done; value_is = x2.done; each_is = x3.done; last_is = x4.done; gives = sym (same_ok x4.rest) }
 
-  loop_part : (mark : Place) (p : FlatPattern) (first : FlatTerm) (turns : FlatTurns) (body : FlatTerm) → Law first → Law_turns N types home K places data_places turns → Law body → Law (a_loop mark p first turns body)
-  loop_part mark p first turns body lf lt lb In Vars scope T lo st d pl t k E q = inl (record {
+  loop_part : (sizes : List BindId) (mark : Place) (p : FlatPattern) (first : FlatTerm) (turns : FlatTurns) (body : FlatTerm) → Law first → Law_turns N types home K places data_places turns → Law body → Law (a_loop sizes mark p first turns body)
+  loop_part sizes mark p first turns body lf lt lb In Vars scope T lo st d pl t k E q = inl (record {
     size = R.last.result;
     is_whole = ap (λ (x : Done Part). x.result) R.gives;
-    inner = subst (λ (x : Done Part). Inner N types home In Vars scope (a_loop mark p first turns body) lo (lo + numbers (a_loop mark p first turns body)) st R.last.result x.state) (sym R.gives)
-        (subst (λ n. Inner N types home In Vars scope (a_loop mark p first turns body) lo n st R.last.result R.last.state) (sym last) (record { says = M.says; typed = M.typed; kept = M.kept; dropped = M.dropped; rules = M.rules }));
+    inner = subst (λ (x : Done Part). Inner N types home In Vars scope (a_loop sizes mark p first turns body) lo (lo + numbers (a_loop sizes mark p first turns body)) st R.last.result x.state) (sym R.gives)
+        (subst (λ n. Inner N types home In Vars scope (a_loop sizes mark p first turns body) lo n st R.last.result R.last.state) (sym last) (record { says = M.says; typed = M.typed; kept = M.kept; dropped = M.dropped; rules = M.rules }));
   })
     where
-      R : Loop_ran N types home K places data_places p first turns body lo (1 + lo + pattern_numbers p) (1 + lo + pattern_numbers p + numbers first) (1 + lo + pattern_numbers p + numbers first + turn_numbers turns) (1 + lo + pattern_numbers p + numbers first + turn_numbers turns + numbers body) refl refl refl refl scope st d
-      R = loop_ran mark p first turns body lo scope st d q
+      R : Loop_ran N types home K places data_places sizes p first turns body lo (1 + lo + pattern_numbers p) (1 + lo + pattern_numbers p + numbers first) (1 + lo + pattern_numbers p + numbers first + turn_numbers turns) (1 + lo + pattern_numbers p + numbers first + turn_numbers turns + numbers body) refl refl refl refl scope st d
+      R = loop_ran sizes mark p first turns body lo scope st d q
 
-      last : lo + numbers (a_loop mark p first turns body) ≡ 1 + lo + pattern_numbers p + numbers first + turn_numbers turns + numbers body
+      last : lo + numbers (a_loop sizes mark p first turns body) ≡ 1 + lo + pattern_numbers p + numbers first + turn_numbers turns + numbers body
       last = omega arith
 
-      M : Loop_meets N types home K places data_places p first turns body lo (1 + lo + pattern_numbers p) (1 + lo + pattern_numbers p + numbers first) (1 + lo + pattern_numbers p + numbers first + turn_numbers turns) (1 + lo + pattern_numbers p + numbers first + turn_numbers turns + numbers body) refl refl refl refl In Vars scope st R.last.result R.last.state
-      M = loop_meets N types home K places data_places p first turns body lo (1 + lo + pattern_numbers p) (1 + lo + pattern_numbers p + numbers first) (1 + lo + pattern_numbers p + numbers first + turn_numbers turns) (1 + lo + pattern_numbers p + numbers first + turn_numbers turns + numbers body) refl refl refl refl
+      M : Loop_meets N types home K places data_places sizes p first turns body lo (1 + lo + pattern_numbers p) (1 + lo + pattern_numbers p + numbers first) (1 + lo + pattern_numbers p + numbers first + turn_numbers turns) (1 + lo + pattern_numbers p + numbers first + turn_numbers turns + numbers body) refl refl refl refl In Vars scope st R.last.result R.last.state
+      M = loop_meets N types home K places data_places sizes p first turns body lo (1 + lo + pattern_numbers p) (1 + lo + pattern_numbers p + numbers first) (1 + lo + pattern_numbers p + numbers first + turn_numbers turns) (1 + lo + pattern_numbers p + numbers first + turn_numbers turns + numbers body) refl refl refl refl
           lf lt lb In Vars scope T k (subst (λ n. Elsewhere N types home lo n In) last E) pl.0 t.0.0.0.0.0 pl.1 t.0.0.0.0.1 pl.2 t.0.0.1 pl.3 t.0.1 t.1 t.0.0.0.1 t.2 t.3 st d R
-
-  any_loop : (sizes : List BindId) (mark : Place) (p : FlatPattern) (first : FlatTerm) (turns : FlatTurns) (body : FlatTerm) → Law first → Law_turns N types home K places data_places turns → Law body → Law (Loop mark sizes p first turns body)
-  any_loop [] mark p first turns body lf lt lb = loop_part mark p first turns body lf lt lb
-  any_loop (x ∷ xs) mark p first turns body lf lt lb = λ In Vars scope T lo st d pl t known E q. absurd pl.0
 
   mutual
     pub term_part : (e : FlatTerm) → Law e
     term_part (Use (ref.Bound b) at k) = use_part b at k
-    term_part (Use (ref.Prim x) at k) = λ In Vars scope T lo st d p t known E q. absurd p
+    term_part (Use (ref.Prim x) at k) = constant_part x at k
     term_part (Use (ref.Scalar x) at k) = λ In Vars scope T lo st d p t known E q. absurd p
     term_part (Strict o mark ts) = strict_part o mark ts (term_parts ts)
     term_part (Lambda no_pattern e) = λ In Vars scope T lo st d p t known E q. absurd p
     term_part (Lambda (pattern_and x ps) e) = lambda_part x ps e (term_part e)
     term_part (Apply f e) = apply_part N types home K places data_places f e (apply_spine N types home K places data_places f e (spine_part f) (term_part e))
-    term_part (Let b v e) = any_let b.sizes b.parameters b.is_function b.pattern v e (term_part v) (term_part e)
+    term_part (Let b v e) = any_let N types home K places data_places b.sizes b.parameters b.is_function b.pattern v e (term_part v) (headed_part v) (term_part e)
     term_part (If c a b) = if_part c a b (term_part c) (term_part a) (term_part b)
-    term_part (Loop mark sizes x first turns body) = any_loop sizes mark x first turns body (term_part first) (turns_part turns) (term_part body)
+    term_part (Loop mark sizes x first turns body) = loop_part sizes mark x first turns body (term_part first) (turns_part turns) (term_part body)
+
+    pub headed_part : (v : FlatTerm) → Law_headed N types home K places data_places v
+    headed_part (Lambda (pattern_and x ps) e) = lambda_headed x ps e (term_part e)
+    headed_part (Lambda no_pattern e) = λ bs In Vars scope T lo st d i hd pl t known E q. absurd i
+    headed_part (Use r at k) = λ bs In Vars scope T lo st d i hd pl t known E q. absurd i
+    headed_part (Strict o mark ts) = λ bs In Vars scope T lo st d i hd pl t known E q. absurd i
+    headed_part (Apply f e) = λ bs In Vars scope T lo st d i hd pl t known E q. absurd i
+    headed_part (Let b v e) = λ bs In Vars scope T lo st d i hd pl t known E q. absurd i
+    headed_part (If c a b) = λ bs In Vars scope T lo st d i hd pl t known E q. absurd i
+    headed_part (Loop mark sizes x first turns body) = λ bs In Vars scope T lo st d i hd pl t known E q. absurd i
 
     spine_part : (f : FlatTerm) → Spine_law N types home K places data_places f
     spine_part (Use (ref.Bound b) at k) = use_spine N types home K places data_places b at k
     spine_part (Apply f e) = apply_spine N types home K places data_places f e (spine_part f) (term_part e)
-    spine_part (Use (ref.Prim x) at k) = λ In Vars scope T lo st d p t known E q. absurd p
+    spine_part (Use (ref.Prim x) at k) = primitive_spine N types home K places data_places x at k
     spine_part (Use (ref.Scalar x) at k) = λ In Vars scope T lo st d p t known E q. absurd p
     spine_part (Strict o mark ts) = λ In Vars scope T lo st d p t known E q. absurd p
     spine_part (Lambda ps e) = λ In Vars scope T lo st d p t known E q. absurd p

@@ -1,13 +1,15 @@
 -- The terms of which the law speaks: names, operations, functions of data, lets of data and of functions, branches, loops and
--- applications of names to all of their arguments, which are data. A node that binds a name is the home of that name.
+-- applications of names and primitives to all of their arguments, which are data. A node that binds a name is the home of that name.
 use Rattle.std.specs.Prelude.{◌≡◌, ◌⊎◌, ℕ, ◌+◌, Bool, true, false, List, [], ◌∷◌, None}
 use Rattle.fut_scalar.specs.declared.place.BindId.{BindId}
 use Rattle.fut_scalar.specs.declared.scalar.ScalarType.{ScalarType}
 use Rattle.fut_scalar.specs.declared.scalar.ScalarType.TheVariants as sort
+use Rattle.fut_flat.specs.declared.prim.Primitive.{Primitive}
+use Rattle.fut_flat.specs.declared.prim.Primitive.TheVariants as prim
 use Rattle.fut_flat.specs.declared.prim.Ref.{Ref}
 use Rattle.fut_flat.specs.declared.prim.Ref.TheVariants as ref
 use Rattle.fut_flat.specs.Numbers.{pattern_numbers, all_pattern_numbers, own_numbers, numbers, turn_numbers}
-use Rattle.fut_flat.specs.Terms.{Type_use, Array_type, Unique_type, Arrow_type, Tuple_type, Record_type, Type_terms, no_type, type_and, Coerce, Declared, Bound_pattern, Wild_pattern, Tuple_pattern, Record_pattern, Typed_pattern, Patterns, no_pattern, pattern_and, Parameter, Operation, Integer, Truth, Tuple_of, Record_of, Array_of, Binary, Negate, Complement, Index, Project, Update, Replace, Ascribe, Assert, Range, Use, Strict, Lambda, Apply, Let, If, Loop, Terms, no_term, term_and, Counted, Over, While}
+use Rattle.fut_flat.specs.Terms.{Size_parameter, Type_parameter, Type_use, Array_type, Unique_type, Arrow_type, Tuple_type, Record_type, Type_terms, no_type, type_and, Coerce, Declared, Bound_pattern, Wild_pattern, Tuple_pattern, Record_pattern, Typed_pattern, Patterns, no_pattern, pattern_and, Parameter, Operation, Integer, Truth, Tuple_of, Record_of, Array_of, Binary, Negate, Complement, Index, Project, Update, Replace, Ascribe, Assert, Range, Use, Strict, Lambda, Apply, Let, If, Loop, Terms, no_term, term_and, Counted, Over, While}
 use Rattle.fut_flat.specs.Erased.{FlatTerm, FlatTurns, FlatPattern, FlatType}
 use Rattle.fut_types.specs.declared.Kind.{Kind}
 use Rattle.fut_types.specs.declared.Head.TheVariants as head
@@ -15,7 +17,15 @@ use Rattle.fut_types.specs.Types.{Ty, Var, Made, Tys, none, more, Sub, Kinds, Ha
 use Rattle.fut_typing.specs.Names.{Names, AreNames}
 use Rattle.fut_typing.specs.Primitives.{i64_ty}
 use Rattle.fut_typing.specs.Program.{Defined}
+use Rattle.sized_types.specs.Sizes.{Name}
+use Rattle.sizes_meet_rules.specs.Known.{Is_made}
+use Rattle.fut_sizes.specs.Agreeing.{is_among}
 use Rattle.fut_sizes.specs.Compositions.{composition}
+use Rattle.fut_sizes.specs.Functions.{Taking, stands_among, without, chosen_by, size_names}
+use Rattle.fut_sizes.specs.Primitives.{prim_size}
+use Rattle.fut_sizes.specs.Rules.{Each_hole}
+use Rattle.fut_sizes.specs.Scopes.{type_of, or_variable, names}
+use Rattle.fut_sizes.specs.Sizing.{bind_ids, in_pattern, own_sizes}
 
 -- a type without type variables, made as the language makes types: an array of one type, a function of two
 unfoldable mutual
@@ -33,6 +43,16 @@ unfoldable mutual
   pub Formed_types : Tys → Type 0
   Formed_types none = Unit {0}
   Formed_types (more t ts) = Formed_type t × Formed_types ts
+
+-- a type of scalars, of tuples and of records
+unfoldable mutual
+  pub Flat_type : Ty → Type 0
+  Flat_type (Var v) = ⊥
+  Flat_type (Made h ts) = Is_made h × Flat_types ts
+
+  pub Flat_types : Tys → Type 0
+  Flat_types none = Unit {0}
+  Flat_types (more t ts) = Flat_type t × Flat_types ts
 
 -- a written type of data
 abbrev mutual
@@ -72,6 +92,33 @@ Plain_operation N (Ascribe e) t ts = Unit {0}
 Plain_operation N (Coerce e) t ts = Written_data e
 Plain_operation N (Declared e) t ts = Written_data e
 
+-- a primitive that takes no function
+abbrev pub Takes_data : Primitive → Type 0
+Takes_data prim.Map = ⊥
+Takes_data prim.Map2 = ⊥
+Takes_data prim.Map3 = ⊥
+Takes_data prim.Map4 = ⊥
+Takes_data prim.Map5 = ⊥
+Takes_data prim.Reduce = ⊥
+Takes_data prim.ReduceComm = ⊥
+Takes_data prim.Scan = ⊥
+Takes_data prim.Filter = ⊥
+Takes_data prim.Partition = ⊥
+Takes_data prim.ReduceByIndex = ⊥
+Takes_data prim.Tabulate = ⊥
+Takes_data p = Unit {0}
+
+-- a primitive that is a number
+abbrev pub Is_constant : Primitive → Type 0
+Is_constant (prim.Lowest own) = Unit {0}
+Is_constant (prim.Highest own) = Unit {0}
+Is_constant (prim.NumBits own) = Unit {0}
+Is_constant p = ⊥
+
+-- used at a type where its variables stand for types without arrays
+abbrev pub Plain_primitive : Primitive → Ty → Type 0
+Plain_primitive p t = Takes_data p × Each_hole (λ v. Flat_type (or_variable v (type_of v (prim_size p) t))) (prim_size p)
+
 -- a function under a name
 abbrev pub Is_lambda : FlatTerm → Type 0
 Is_lambda (Lambda (pattern_and p ps) e) = Unit {0}
@@ -80,6 +127,17 @@ Is_lambda e = ⊥
 abbrev pub Is_bound : FlatPattern → Type 0
 Is_bound (Bound_pattern b) = Unit {0}
 Is_bound p = ⊥
+
+abbrev pub Is_name : FlatPattern → Type 0
+Is_name (Bound_pattern b) = Unit {0}
+Is_name Wild_pattern = Unit {0}
+Is_name p = ⊥
+
+-- size parameters alone
+abbrev pub Are_sizes : List (Parameter BindId) → Type 0
+Are_sizes [] = Unit {0}
+Are_sizes (Size_parameter b ∷ ps) = Are_sizes ps
+Are_sizes (Type_parameter b lifted ∷ ps) = ⊥
 
 -- the type of a whole number
 abbrev pub number_ty : Ty → Bool
@@ -111,36 +169,59 @@ module _ (types : Sub) (home : ℕ → ℕ) (K : Kinds) (places : Kind) where
   Plain_patterns no_pattern q = Unit {0}
   Plain_patterns (pattern_and p ps) q = Plain_pattern p q × Formed_type (types q) × HasKind K places (types q) × Plain_patterns ps (q + pattern_numbers p)
 
-  -- a let that names no sizes; one that is written as a function has neither size nor type parameters, and its type has no type
-  -- variables
-  abbrev pub Plain_let : List BindId → List (Parameter BindId) → Bool → FlatPattern → FlatTerm → ℕ → Type 0
-  Plain_let [] [] false p v q = Plain_pattern p q
-  Plain_let [] [] true p v q = Plain_pattern p q × Is_bound p × Is_lambda v × Formed_type (types q)
-  Plain_let sizes parameters is_function p v q = ⊥
+  -- a pattern that may name sizes: then it is a name, or none, with a written type of data, the sizes are at home at its node, and its
+  -- name is none of them
+  abbrev pub Plain_sizes : List BindId → FlatPattern → ℕ → Type 0
+  Plain_sizes [] p q = Plain_pattern p q
+  Plain_sizes (b ∷ bs) (Typed_pattern p e) q = Is_name p × Written_data e × Plain_pattern p q × ((c : ℕ) → is_among (bind_ids (b ∷ bs)) c ≡ true → (home c ≡ q) × (is_among (names p) c ≡ false))
+  Plain_sizes bs p q = ⊥
 
-  -- a loop that names no sizes
-  abbrev pub Plain_loop : List BindId → FlatPattern → ℕ → Type 0
-  Plain_loop [] p q = Plain_pattern p q
-  Plain_loop sizes p q = ⊥
+  -- ---- the size names of a function's head, as far as no parameter before has chosen them
+
+  -- a parameter at a node, with the sized type that it has by itself
+  abbrev pub parameter : Names → FlatPattern → ℕ → Taking
+  parameter N p q = record { pattern = p; node = q; size = in_pattern N types p (own_sizes N types q) }
+
+  -- no name of the parameter is one of them, and those that it chooses are at home there
+  pub record Head_at (N : Names) (bs : List ℕ) (p : FlatPattern) (q : ℕ) : Type 0 where
+    pub apart : (b : ℕ) → is_among (names p) b ≡ true → is_among bs b ≡ false
+    pub at_home : (b : ℕ) → stands_among (chosen_by bs (parameter N p q)) (Name b) ≡ true → home b ≡ q
+
+  abbrev pub Plain_head : Names → List ℕ → Patterns Ref BindId → ℕ → Type 0
+  Plain_head N bs no_pattern q = Unit {0}
+  Plain_head N bs (pattern_and p ps) q = Head_at N bs p q × Plain_head N (without (chosen_by bs (parameter N p q)) bs) ps (q + pattern_numbers p)
+
+  abbrev pub Plain_headed : Names → List ℕ → FlatTerm → ℕ → Type 0
+  Plain_headed N bs (Lambda ps e) lo = Plain_head N bs ps (1 + lo)
+  Plain_headed N bs e lo = ⊥
+
+  -- a let that is written as a function has no type parameters, and its type has no type variables
+  abbrev pub Plain_let : Names → Bool → List BindId → List (Parameter BindId) → FlatPattern → FlatTerm → ℕ → Type 0
+  Plain_let N false sizes [] p v q = Plain_sizes sizes p q
+  Plain_let N true [] ps p v q = Plain_pattern p q × Is_bound p × Is_lambda v × Formed_type (types q) × Are_sizes ps × Plain_headed N (size_names ps) v (q + pattern_numbers p)
+  Plain_let N is_function sizes parameters p v q = ⊥
 
   module _ (N : Names) where
     abbrev mutual
       pub Plain_term : FlatTerm → ℕ → Type 0
-      Plain_term (Use (ref.Bound b) at k) lo = types lo ≡ types (home b.0)
+      -- a name is used at the type of the node that binds it, or is a number as a size name is
+      Plain_term (Use (ref.Bound b) at k) lo = (types lo ≡ types (home b.0)) ⊎ (types lo ≡ i64_ty)
+      Plain_term (Use (ref.Prim p) at k) lo = Is_constant p
       Plain_term (Strict o mark ts) lo = Plain_operation N o (types lo) ts × Plain_terms ts (lo + own_numbers o)
       Plain_term (Lambda (pattern_and p ps) e) lo = Plain_patterns (pattern_and p ps) (1 + lo) × Plain_term e (1 + lo + all_pattern_numbers (pattern_and p ps))
       -- a function by its name, applied to all of its arguments: these and the result are data
       Plain_term (Apply f e) lo = HasKind K places (types lo) × (Plain_argument e (types (1 + lo + numbers f)) × HasKind K places (types (1 + lo + numbers f)) × Plain_spine f (1 + lo) × Plain_term e (1 + lo + numbers f))
-      Plain_term (Let b v e) lo = Plain_let b.sizes b.parameters b.is_function b.pattern v (1 + lo) × (composition b e ≡ None)
+      Plain_term (Let b v e) lo = Plain_let N b.is_function b.sizes b.parameters b.pattern v (1 + lo) × (composition b e ≡ None)
           × (HasKind K places (types (1 + lo + pattern_numbers b.pattern)) ⊎ (Is_lambda v × Is_bound b.pattern)) × Plain_term v (1 + lo + pattern_numbers b.pattern) × Plain_term e (1 + lo + pattern_numbers b.pattern + numbers v)
       Plain_term (If c a b) lo = Plain_term c (1 + lo) × Plain_term a (1 + lo + numbers c) × Plain_term b (1 + lo + numbers c + numbers a)
-      Plain_term (Loop mark sizes p first turns body) lo = Plain_loop sizes p (1 + lo) × Plain_term first (1 + lo + pattern_numbers p)
+      Plain_term (Loop mark sizes p first turns body) lo = Plain_sizes sizes p (1 + lo) × Plain_term first (1 + lo + pattern_numbers p)
           × Plain_turns turns (1 + lo + pattern_numbers p + numbers first) × Plain_term body (1 + lo + pattern_numbers p + numbers first + turn_numbers turns)
       Plain_term e lo = ⊥
 
       -- a name, applied to arguments of data
       pub Plain_spine : FlatTerm → ℕ → Type 0
       Plain_spine (Use (ref.Bound b) at k) lo = types lo ≡ types (home b.0)
+      Plain_spine (Use (ref.Prim p) at k) lo = Plain_primitive p (types lo)
       Plain_spine (Apply f e) lo = Plain_argument e (types (1 + lo + numbers f)) × HasKind K places (types (1 + lo + numbers f)) × Plain_spine f (1 + lo) × Plain_term e (1 + lo + numbers f)
       Plain_spine e lo = ⊥
 
@@ -153,9 +234,9 @@ module _ (types : Sub) (home : ℕ → ℕ) (K : Kinds) (places : Kind) where
       Plain_turns (Over p e) lo = Plain_pattern p lo × Plain_term e (lo + pattern_numbers p)
       Plain_turns (While c) lo = Plain_term c lo
 
-    -- a definition of a function, without size and type parameters, whose type has no type variables
+    -- a definition of a function, without type parameters, whose type has no type variables
     abbrev pub Plain_definition : FlatPattern → List (Parameter BindId) → FlatTerm → ℕ → Type 0
-    Plain_definition (Bound_pattern b) [] v lo = (home b.0 ≡ lo) × Is_lambda v × Formed_type (types lo) × Plain_term v (lo + 1)
+    Plain_definition (Bound_pattern b) ps v lo = (home b.0 ≡ lo) × Is_lambda v × Formed_type (types lo) × Are_sizes ps × Plain_headed N (size_names ps) v (lo + 1) × Plain_term v (lo + 1)
     Plain_definition p ps v lo = ⊥
 
     abbrev pub Plain_definitions : List Defined → ℕ → Type 0
