@@ -11,7 +11,7 @@ use Rattle.fut_flat.specs.declared.exp.Form.{Form-F, out-Form, roll-Form, roll-o
 use Rattle.fut_flat.specs.declared.exp.Let.{Let as LetTree}
 use Rattle.fut_flat.specs.Erased.{FlatPattern, FlatTerm, lets, operation_of, pattern_of, term_of, terms}
 use Rattle.fut_flat.specs.Terms.{Assert, Let, Strict, no_term, term_and}
-use Rattle.fut_flat.proofs.ErasedForms.{Layer, layer, exp_term, form_term_at, loop_is, row_of, row_is, term_strict, term_lets}
+use Rattle.fut_flat.proofs.ErasedForms.{Layer, layer, exp_term, form_term_at, loop_is, row_of, term_strict, term_lets}
 use Rattle.fut_meaning.specs.Knowns.{Scope, data_bound}
 use Rattle.fut_meaning.specs.Walk.{is_assertion, is_let, Visits, v_assert}
 use Rattle.fut_meaning.specs.Comes.{in_condition, in_guarded, comes_here, asserted_function}

@@ -8,7 +8,6 @@ use Rattle.fut_flat.specs.declared.exp.Exp.{Exp}
 use Rattle.fut_flat.specs.declared.exp.Form.TheVariants as form
 use Rattle.fut_flat.specs.declared.exp.Let.{Let}
 use Rattle.fut_flat.specs.declared.exp.Loop.{Loop as LoopTree}
-use Rattle.fut_flat.specs.declared.exp.LoopForm.TheVariants as turns
 use Rattle.fut_flat.specs.declared.pat.Pat.{Pat}
 use Rattle.fut_flat.specs.declared.prim.Ref.{Ref}
 use Rattle.fut_flat.specs.Erased.{FlatTerm, operation_of, pattern_of, patterns, term_of, terms}

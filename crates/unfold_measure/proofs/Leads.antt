@@ -7,7 +7,7 @@ use Rattle.fut_flat.specs.Erased.{FlatTerm, terms}
 use Rattle.fut_flat.specs.Terms.{Binding, Let}
 use Rattle.fut_meaning.specs.Knowns.{Known, Data, Knowns, Scope, known_bound}
 use Rattle.fut_meaning.specs.Walk.{is_let, Visits, All_visits, v_more, Row_visits, v_let, Runs, Given_visits, g_more, Function_visits, f_applied}
-use Rattle.fut_meaning.specs.Comes.{Inside_all, in_rest, Inside_row, in_next, Inside_given, in_later, Inside_function, in_applied_on, Stuck_given, stuck_later, Stuck_function, stuck_on, Stuck_row, no_pattern_later}
+use Rattle.fut_meaning.specs.Comes.{Inside_all, in_rest, Inside_row, in_next, Inside_given, in_later, Inside_function, in_applied_on, Stuck_given, stuck_later, Stuck_function, stuck_on, no_pattern_later}
 use Rattle.unfold_measure.specs.Held.{knowns}
 use Rattle.unfold_measure.specs.Answers.{Leads}
 

@@ -3,7 +3,6 @@ use Rattle.std.proofs.Common.{◌≡◌, ℕ, ◌+◌, ◌≤◌, ◌<◌, ◌++
 use Rattle.std.specs.Ordering.{ord_max, is_lt, nat_cmp}
 use Rattle.std.proofs.Common.{append-nil}
 use mathlib.Core.List.{map-append}
-use Rattle.std.specs.Prelude.{Result}
 use Rattle.std.specs.declared.cmp.Ordering.{Ordering}
 use Rattle.std.specs.declared.cmp.Ordering.TheVariants.{Less, Equal, Greater}
 use Rattle.std.specs.Borrow.{Bor}
@@ -15,7 +14,7 @@ use Rattle.fut_flat.specs.Erased.{FlatTerm, lets, pattern_of, term_of, terms}
 use Rattle.fut_scalar.specs.declared.place.BindId.{BindId}
 use Rattle.fut_flat.specs.declared.prim.Ref.{Ref}
 use Rattle.fut_flat.specs.Terms.{Binding, Let, Use, Strict, Lambda, Apply, If, Loop}
-use Rattle.fut_flat.proofs.ErasedForms.{Layer, layer, exp_term, form_term_at, loop_is, row_of, row_is, term_lets}
+use Rattle.fut_flat.proofs.ErasedForms.{Layer, layer, exp_term, form_term_at, loop_is, row_is}
 use Rattle.fut_meaning.specs.Knowns.{Scope, known_bound}
 use Rattle.fut_meaning.specs.Walk.{is_let, Visits, v_lets, All_visits, v_none, v_body}
 use Rattle.fut_meaning.specs.Comes.{Inside, in_lets, in_here, Inside_row, in_value, in_row_body, Stuck_row, no_pattern_here, no_row}
@@ -29,7 +28,7 @@ use Rattle.unfold_measure.specs.declared.walked.Row.{Row as Held_row}
 use Rattle.unfold_measure.specs.Answers.{Bound_to, bound_is, not_bound, no_memory_to_bind, Ended, ended_at, is_stuck, no_memory_left, Walked_to, walked, stopped, Stopped, no_memory, Parts_to, parts_walked, parts_stopped, Leads}
 use Rattle.unfold_measure.specs.Rows.{Left_of, left_of, none_left, behind, binding_of, how_many}
 use Rattle.unfold_measure.specs.declared.lets.Left.{Left}
-use Rattle.unfold_measure.proofs.Walks.{up, into}
+use Rattle.unfold_measure.proofs.Walks.{into}
 use Rattle.unfold_measure.proofs.Leads.{leads_start, leads_on, leads_let, All_lead, all_start, all_on}
 use Rattle.unfold_reach.proofs.Lists.{one_more, drop_end}
 

@@ -6,7 +6,7 @@ use Rattle.fut_scalar.specs.declared.place.BindId.{BindId}
 use Rattle.fut_flat.specs.declared.prim.Ref.{Ref}
 use Rattle.fut_flat.specs.Erased.{FlatTerm}
 use Rattle.fut_flat.specs.Terms.{Terms}
-use Rattle.fut_meaning.specs.Knowns.{Known, Data, Knowns, known_none, known_and, Scope, data_of, is_data, known_bound}
+use Rattle.fut_meaning.specs.Knowns.{Known, Data, Knowns, known_none, known_and, Scope, data_of, is_data}
 use Rattle.fut_meaning.specs.Walk.{Visits, All_visits, Row_visits, Runs, Given_visits, Function_visits}
 use Rattle.fut_meaning.specs.Comes.{Inside_run, Inside_given, Inside_function, Inside_all, Inside_row, Comes, Stuck_run, Stuck_given, Stuck_function, Stuck_row, Lost as Is_lost}
 use Rattle.fut_meaning.specs.Measures.{most_nodes, most_depth}

@@ -2,7 +2,7 @@ use Rattle.std.proofs.Common.{[], ◌∙◌, sym, refl, arith}
 use Rattle.std.proofs.lemmas.Slice.{between_to_end}
 use Rattle.unfold_measure.proofs.Walks.{apply_function, apply_argument, apply_run, apply_ok, strict_parts, strict_lost, strict_ok}
 use Rattle.unfold_measure.proofs.Forms.{too_deep, too_many, form_use, form_unknown, form_lambda, form_strict, form_apply, form_lets, form_if, form_loop, data_ok, data_function, data_stopped, plain_visit, plain_row}
-use Rattle.unfold_measure.proofs.Rows.{greater, parts_more, parts_fail, parts_memory, parts_done, row_more, row_value, row_pattern, row_last, row_ok, row_shrinks}
+use Rattle.unfold_measure.proofs.Rows.{greater, parts_more, parts_fail, parts_memory, parts_done, row_more, row_value, row_pattern, row_last, row_ok}
 use Rattle.unfold_measure.proofs.Asserting.{first_asserts, first_in_row, nothing_left, assert_condition, assert_memory, assert_guarded, assert_ok}
 use Rattle.unfold_measure.proofs.Leads.{leads_start, all_start, given_start, function_start}
 use Rattle.unfold_measure.proofs.Running.{function_at, run_other, run_of_function, run_of_primitive, run_none, run_pattern, run_last, run_waits, primitive_waits, primitive_stopped, primitive_ran, given_more, given_fail, given_many, given_few, given_done, function_more, function_fail, function_data, function_other}
