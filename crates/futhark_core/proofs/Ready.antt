@@ -169,11 +169,11 @@ module _ {accepted : Accepted} {sizing : Sizing} (known : Is_known accepted) (si
     answers source e is turns = subst (λ (f : Flat). Answers (record { files = source.files; flat = f }) entered turns) (sym e) (some_answer source.files turns (is ∙ ap (λ f. Ok (flat_of f)) e))
 
     -- a limit is passed, or memory ran out
-    pub unready : (asked : Command) (source : Source) (old : Streams) → asked.entry ≡ name → source.flat ≡ flat → resolve_program source.files ≡ Ok (flat_of source.flat) → (err : PrepareErr) → Is_past flat entry.number entry.ty.params err → ProgramRow (unprepared err) asked source old old
+    pub unready : (asked : Command) (source : Source) (old : Streams) → asked.entry ≡ name → source.flat ≡ flat → resolve_program source.files ≡ Ok (flat_of source.flat) → (err : PrepareErr) → Is_past flat Z entry.number entry.ty.params err → ProgramRow (unprepared err) asked source old old
     unready asked source old named same is prepare.Nodes past =
-        record { entered = entered; is_entered = rw named (is_entered source same); answers = answers source same is asked.turns; past = subst (λ (f : Flat). Measures (flat_tops 0 (named_terms f)) entry.number.0 (length entry.ty.params) (Err measure.Nodes)) (sym same) past; quiet = refl }
+        record { entered = entered; is_entered = rw named (is_entered source same); answers = answers source same is asked.turns; past = subst (λ (f : Flat). Measures (Some Z) (flat_tops 0 (named_terms f)) entry.number.0 (length entry.ty.params) (Err measure.Nodes)) (sym same) past; quiet = refl }
     unready asked source old named same is prepare.Depth past =
-        record { entered = entered; is_entered = rw named (is_entered source same); answers = answers source same is asked.turns; past = subst (λ (f : Flat). Measures (flat_tops 0 (named_terms f)) entry.number.0 (length entry.ty.params) (Err measure.Depth)) (sym same) past; quiet = refl }
+        record { entered = entered; is_entered = rw named (is_entered source same); answers = answers source same is asked.turns; past = subst (λ (f : Flat). Measures (Some Z) (flat_tops 0 (named_terms f)) entry.number.0 (length entry.ty.params) (Err measure.Depth)) (sym same) past; quiet = refl }
     unready asked source old named same is prepare.Memory past = (refl, inl refl)
 
     module _ {p : Program} (pr : Is_prepared flat (told_with (integer_at accepted.integers) Z) entry.number entry.ty.params p) where
@@ -200,7 +200,7 @@ module _ {accepted : Accepted} {sizing : Sizing} (known : Is_known accepted) (si
         entered = rw named (is_entered source same);
         answers = answers source same is asked.turns;
         measured = pr.measured;
-        measures = subst (λ (f : Flat). Measures (flat_tops 0 (named_terms f)) entry.number.0 (length entry.ty.params) (Ok pr.measured)) (sym same) pr.measures;
+        measures = subst (λ (f : Flat). Measures (Some Z) (flat_tops 0 (named_terms f)) entry.number.0 (length entry.ty.params) (Ok pr.measured)) (sym same) pr.measures;
       }
 
   -- ---- the definition at this place of the row has not one type from which a run may begin

@@ -1,5 +1,5 @@
 -- What each status of a run says of its words and of the outside before and after it.
-use Rattle.std.specs.Prelude.{◌≡◌, ◌≤◌, ◌⊎◌, ℕ, List, length, map, codes, true, Ok, Err}
+use Rattle.std.specs.Prelude.{◌≡◌, ◌≤◌, ◌⊎◌, ℕ, List, length, map, codes, true, Some, Ok, Err}
 use Rattle.fut_io.specs.Counts.{Rose}
 use Rattle.fut_io.specs.Outside.{LoaderSeen, SourceSeen, SinkSeen, AllRead, ReadPart, ReadPast, Took, TookPart}
 use Rattle.fut_scalar.specs.declared.place.Place.{Place}
@@ -115,12 +115,12 @@ pub record EntryRow (asked : Command) (source : Source) (old new : Streams) (err
   pub not_entered : NotEntered source asked.entry err
   pub quiet : new ≡ old
 
--- with its functions unfolded the program passes a limit, before anything else was touched
+-- with its functions unfolded the program, with its sizing, passes a limit, before anything else was touched
 pub record MeasureRow (asked : Command) (source : Source) (old new : Streams) (err : MeasureErr) : Type 0 where
   pub entered : Entered
   pub is_entered : IsEntered source asked.entry entered
   pub answers : Answers source entered asked.turns
-  pub past : Measures (tops_of source) entered.number (length entered.params) (Err err)
+  pub past : Measures (Some entered.sizing) (tops_of source) entered.number (length entered.params) (Err err)
   pub quiet : new ≡ old
 
 -- the entry is found, and the program unfolded from it is within the limits
@@ -128,7 +128,7 @@ pub record IsReady (asked : Command) (source : Source) (e : Entered) : Type 0 wh
   pub entered : IsEntered source asked.entry e
   pub answers : Answers source e asked.turns
   pub measured : Measured
-  pub measures : Measures (tops_of source) e.number (length e.params) (Ok measured)
+  pub measures : Measures (Some e.sizing) (tops_of source) e.number (length e.params) (Ok measured)
 
 pub record InputBytesRow (asked : Command) (source : Source) (old new : Streams) : Type 0 where
   pub entered : Entered

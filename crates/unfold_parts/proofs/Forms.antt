@@ -1,5 +1,5 @@
 -- What is known of a value, by its form: what has not one form has another.
-use Rattle.std.proofs.Common.{◌≡◌, ℕ, List, map, refl, sym, ap, ◌∙◌, subst}
+use Rattle.std.proofs.Common.{◌≡◌, ℕ, List, map, false, refl, sym, ap, ◌∙◌, subst}
 use Rattle.std.specs.Borrow.{Bor}
 use Rattle.fut_scalar.specs.declared.place.BindId.{BindId}
 use Rattle.fut_scalar.specs.declared.place.Place.{Place}
@@ -12,6 +12,7 @@ use Rattle.unfold.proofs.Mirror.{known_scalar, known_tuple, known_record, known_
 use Rattle.unfold.specs.Held.{known_of, field_of, fields_known}
 use Rattle.unfold.specs.Knowns.{Known, Scalar_known, Tuple_known, Record_known, Function_known, Primitive_known, Knowns, Scope, knowns}
 use Rattle.unfold.specs.Shapes.{Shape, Scalar_shape}
+use Rattle.unfold.specs.Telling.{is_function}
 use Rattle.unfold.specs.Stuck.{No_scalar}
 use Rattle.unfold.specs.declared.known.Field.{Field}
 use Rattle.unfold.specs.declared.known.Function.{Function}
@@ -59,3 +60,14 @@ module _ (s : Held_known) where
   -- functions are not laid out
   pub form_unlaid : ((u : Atom) → s.form ≡ form.Scalar u → ⊥) → ((ss : Bor (List Held_known)) → s.form ≡ form.Tuple ss → ⊥) → ((fs : Bor (List Field)) → s.form ≡ form.Record fs → ⊥) → (h : Shape) → Not_laid_out h (known_of s)
   form_unlaid c t r h = by_form s (Not_laid_out h) (λ u is. absurd (c u is)) (λ ss is. absurd (t ss is)) (λ fs is. absurd (r fs is)) (λ ps e lo sc. function_unlaid h ps e lo sc) (λ p at ss. primitive_unlaid h p at ss)
+
+  -- what is no function is data
+  pub form_data : ((g : Bor Function) → s.form ≡ form.Function g → ⊥) → ((p : Primitive) (at : Place) (ss : Bor (List Held_known)) → s.form ≡ form.Primitive p at ss → ⊥) → is_function (known_of s) ≡ false
+  form_data f p = at (out-KnownForm s.form) refl
+    where
+      at : (l : Layer) → out-KnownForm s.form ≡ l → is_function (known_of s) ≡ false
+      at (KnownForm-F.Scalar u) q = ap is_function (known_scalar s u (back _ _ (q ∙ sym (form.outs-Scalar u))))
+      at (KnownForm-F.Tuple ss) q = ap is_function (known_tuple s ss (back _ _ (q ∙ sym (form.outs-Tuple ss))))
+      at (KnownForm-F.Record fs) q = ap is_function (known_record s fs (back _ _ (q ∙ sym (form.outs-Record fs))))
+      at (KnownForm-F.Function g) q = absurd (f g (back _ _ (q ∙ sym (form.outs-Function g))))
+      at (KnownForm-F.Primitive p' at' ss) q = absurd (p p' at' ss (back _ _ (q ∙ sym (form.outs-Primitive p' at' ss))))

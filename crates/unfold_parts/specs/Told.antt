@@ -37,6 +37,10 @@ pub record Tell (T : Held_told) (told : Told) : Type 0 where
 abbrev pub Enters : Held_sizes → ℕ → Known → Scope → Scope → Type 0
 Enters S q s sc inner = (Z : Option Sizing) → Told_by S Z → inner ≡ enter Z q s sc
 
+-- what the next definition begins with, where one was evaluated whose name has a node
+abbrev pub Sees : Held_sizes → ℕ → Known → Scope → Scope → Type 0
+Sees S q s seen next = (Z : Option Sizing) → Told_by S Z → next ≡ programs.seeing Z q s seen
+
 abbrev pub Binds : Held_sizes → ℕ → FlatPattern → Known → Scope → ℕ → Bindings → Scope → ℕ → Type 0
 Binds S q p s sc n bs inner m = (Z : Option Sizing) → Told_by S Z → rules.Binds Z q p s sc n bs inner m
 
@@ -87,11 +91,12 @@ module _ (T : Held_told) where
     abbrev pub Turn_names : Scope → Scope → ℕ → FlatTurns → Scope → Type 0
     Turn_names sc inside at turns inner = (told : Told) → Tell T told → lacking.Turn_names told tops sc inside at turns inner
 
-  abbrev pub Definitions_unfold : ℕ → Tops → List FlatTop → ℕ → Bindings → Tops → ℕ → Type 0
-  Definitions_unfold entry tops ds n bs end m = (told : Told) → Tell T told → programs.Definitions_unfold told entry tops ds n bs end m
+  -- under the names and what was entered that the first one begins with
+  abbrev pub Definitions_unfold : ℕ → Scope → Tops → List FlatTop → ℕ → Bindings → Tops → ℕ → Type 0
+  Definitions_unfold entry seen tops ds n bs end m = (told : Told) → Tell T told → programs.Definitions_unfold told entry seen tops ds n bs end m
 
-  abbrev pub Definitions_stuck : ℕ → Tops → List FlatTop → Type 0
-  Definitions_stuck entry tops ds = (told : Told) → Tell T told → lacking.Definitions_stuck told entry tops ds
+  abbrev pub Definitions_stuck : ℕ → Scope → Tops → List FlatTop → Type 0
+  Definitions_stuck entry seen tops ds = (told : Told) → Tell T told → lacking.Definitions_stuck told entry seen tops ds
 
   abbrev pub Program_unfolds : List FlatTop → ℕ → Shapes → Shape → Program → Type 0
   Program_unfolds ds entry hs h p = (told : Told) → Tell T told → programs.Program_unfolds told ds entry hs h p

@@ -1,5 +1,5 @@
 -- What a loop begins with, and the names of a turn.
-use Rattle.std.proofs.Common.{◌≡◌, ℕ, ◌++◌, List, Option, Ok, Err, ap, ◌∙◌, subst, append_assoc}
+use Rattle.std.proofs.Common.{◌≡◌, ℕ, ◌++◌, List, true, false, cond, Option, Ok, Err, sym, ap, ◌∙◌, subst, append_assoc}
 use Rattle.std.specs.Prelude.{IfErr, IfOk, Result}
 use Rattle.std.specs.Borrow.{Bor}
 use Rattle.fut_scalar.specs.declared.place.BindId.{BindId}
@@ -9,9 +9,9 @@ use Rattle.unfold.specs.Held.{known_of, scope_of}
 use Rattle.unfold.specs.Knowns.{Known, Scope, name_and}
 use Rattle.fut_meaning.specs.Found.{Sizing}
 use Rattle.told_rows.specs.Tables.{Told_by}
-use Rattle.unfold.specs.Telling.{enter}
+use Rattle.unfold.specs.Telling.{enter, is_function}
 use Rattle.unfold.specs.Unfolding.{named}
-use Rattle.unfold_parts.specs.Told.{Held_sizes}
+use Rattle.unfold_parts.specs.Told.{Held_sizes, Enters, Sees}
 use Rattle.unfold.specs.declared.known.Known.{Known as Held_known}
 use Rattle.unfold.specs.declared.known.Scope.{Scope as Held_scope}
 use Rattle.unfold_parts.specs.Answers.{answered, unanswered, Bound_to}
@@ -53,3 +53,14 @@ module _ (S : Held_sizes) (at : ℕ) (p : FlatPattern) (sc : Scope) (s : Known) 
         by_row : (r : Result Held_scope Refusal) → Bound_to S at p s sc old.next (steps_of old) (steps_of mid) mid.next (Ok inside) → Bound_to S row_at q (named y) (scope_of inside) mid.next (steps_of mid) (steps_of new) new.next r → Row_bound_to S at p row_at q y sc s old new r
         by_row _ (answered bs e b) (answered cs f b') = row_bound_to bs cs (f ∙ ap (λ z. z ++ cs) e ∙ append_assoc (steps_of old) bs cs) b b'
         by_row _ (answered bs e b) (unanswered h) = not_row_bound (refused_as (no_names_of_row (old.next, bs, mid.next, b)) h)
+
+-- ---- what the definition behind one begins with
+
+module _ (S : Held_sizes) (node : ℕ) (k : Held_known) (seen : Held_scope) where
+  -- a function is not entered
+  pub functions_pass : is_function (known_of k) ≡ true → Sees S node (known_of k) (scope_of seen) (scope_of seen)
+  functions_pass is Z t = sym (ap (λ c. cond c (scope_of seen) (enter Z node (known_of k) (scope_of seen))) is)
+
+  -- data is
+  pub data_enters : (next : Held_scope) → is_function (known_of k) ≡ false → Enters S node (known_of k) (scope_of seen) (scope_of next) → Sees S node (known_of k) (scope_of seen) (scope_of next)
+  data_enters next is h Z t = h Z t ∙ sym (ap (λ c. cond c (scope_of seen) (enter Z node (known_of k) (scope_of seen))) is)

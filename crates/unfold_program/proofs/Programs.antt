@@ -1,6 +1,6 @@
 -- Programs: their definitions one after the other, and then the entry; or that there is no way on in one of them.
-use Rattle.std.proofs.Common.{◌≡◌, ℕ, zero, suc, ◌+◌, ◌<◌, ◌≤◌, ◌++◌, List, [], ◌∷◌, map, length, get_or, drop, replicate, ⊎_elim, Bool, true, false, None, Some, Ok, Err, refl, sym, ap, ◌∙◌, subst, arith, append_assoc, append-nil}
-use Rattle.std.specs.Prelude.{Result, Option}
+use Rattle.std.proofs.Common.{◌≡◌, ℕ, zero, suc, ◌+◌, ◌-◌, ◌<◌, ◌≤◌, ◌++◌, List, [], ◌∷◌, map, length, get_or, drop, replicate, ⊎_elim, Bool, true, false, None, Some, Ok, Err, refl, sym, ap, ◌∙◌, subst, arith, append_assoc, append-nil}
+use Rattle.std.specs.Prelude.{IfErr, IfOk, Result, Option}
 use Rattle.std.specs.Borrow.{Bor}
 use Rattle.std.specs.List.{AllClonesOf}
 use Rattle.fut_scalar.specs.declared.place.BindId.{BindId}
@@ -9,17 +9,22 @@ use Rattle.fut_flat.specs.declared.program.Definition.{Definition}
 use Rattle.fut_flat.specs.Erased.{FlatTerm, term_of}
 use Rattle.fut_flat.specs.Numbers.{numbers}
 use Rattle.fut_meaning.specs.Flats.{FlatTop, flat_tops, is_flat_use}
+use Rattle.fut_meaning.specs.Found.{Sizing, Told}
 use Rattle.fut_meaning.specs.Programs.{is_reached}
 use Rattle.fut_blocks.specs.declared.block.Atom.{Atom}
 use Rattle.fut_blocks.specs.declared.block.Block.{Block}
 use Rattle.fut_blocks.specs.declared.block.Program.{Program}
 use Rattle.fut_blocks.specs.Meaning.{look}
+use Rattle.told_rows.specs.Tables.{Told_by}
 use Rattle.unfold_reach.proofs.Lists.{drop_end, one_more}
-use Rattle.unfold_reach.specs.Reach.{Reached, reached, is_set, named_term}
+use Rattle.unfold_reach.proofs.Tops.{name_next, reached_at}
+use Rattle.unfold_reach.specs.Reach.{Reached, is_set, name_at, named_term}
 use Rattle.unfold.specs.Held.{known_of}
 use Rattle.unfold.specs.Knowns.{Known, Tuple_known, Knowns, knowns, listed, nothing_seen, Scalar_known, Scope, Tops}
+use Rattle.unfold.specs.Programs as programs
 use Rattle.unfold.specs.Programs.{d_none, d_reached, d_other}
 use Rattle.unfold.specs.Shapes.{All_laid, Laid, Scalar_shape, Shapes, Tuple_shape, laid_more, laid_none, laid_scalar, laid_tuple}
+use Rattle.unfold.specs.Stuck as lacking
 use Rattle.unfold.specs.Stuck.{in_definitions, in_entry, no_entry, no_result, stuck_definition, stuck_next, stuck_on, stuck_other, stuck_run}
 use Rattle.unfold.specs.Unfolding.{a_none, a_more, Bindings, names}
 use Rattle.unfold.specs.declared.known.Known.{Known as Held_known}
@@ -44,9 +49,9 @@ use Rattle.unfold_program.specs.declared.program.Made.{Made}
 use Rattle.unfold_program.specs.declared.walked.Context.{Context}
 use Rattle.unfold_program.specs.declared.walked.Walked.{Walked}
 use Rattle.unfold_program.specs.Answers.{All_applied, all_applied, not_all_applied, Applied, applied, not_applied, Unfolded, unfolded, refused, defined, told}
-use Rattle.unfold_program.specs.Whole.{scalars, Are_scalars, Given_to, given_to, not_given, Defined_to, passed_over, defined_to, not_defined, Definitions_to, definitions_to, no_definitions, Entry_stuck, not_known, stuck_there, no_data_there, Entry_to, entry_to, not_entered, Finished, finished, not_finished, Unfolds_to, unfolds_to, no_program}
+use Rattle.unfold_program.specs.Whole.{scalars, Are_scalars, Given_to, given_to, not_given, Is_kept, Defined_to, passed_over, defined_to, not_defined, Definitions_to, definitions_to, no_definitions, Entry_stuck, not_known, stuck_there, no_data_there, Entry_to, entry_to, not_entered, Finished, finished, not_finished, Unfolds_to, unfolds_to, no_program}
 use Rattle.unfold_program.proofs.Growing.{grown, not_grown, moved, stuck_at}
-use Rattle.unfold_parts.specs.Told.{Applies_all, Definitions_stuck, Definitions_unfold, Program_stuck, Stuck, Stuck_runs, Unfolds}
+use Rattle.unfold_parts.specs.Told.{Applies_all, Definitions_stuck, Definitions_unfold, Program_stuck, Sees, Stuck, Stuck_runs, Tell, Unfolds}
 
 -- ---- parameters
 
@@ -99,37 +104,42 @@ given_err count n next r m = subst (λ z. Given_to count n next (Err z)) (sym m)
 
 -- ---- one definition
 
-module _ (b : BindId) (e : FlatTerm) (made : Made) (old : Unfolding) where
-  pub define_passed : (is_reached_here : Bool) (c : Context) (first next : ℕ) → is_reached_here ≡ false → c ≡ made.context → first ≡ made.at + 1 → next ≡ first + numbers e → Defined_to b e is_reached_here made old old (Ok (record { context = c; at = next }))
-  define_passed is_reached_here c first next h is q q' = passed_over h refl refl (ap told is) (ap defined is) (omega (arith, q, q'))
+module _ (b : BindId) (e : FlatTerm) (made : Made) (seen : Scope) (old : Unfolding) where
+  pub define_passed : (is_reached_here : Bool) (c : Context) (first next : ℕ) → is_reached_here ≡ false → c ≡ made.context → first ≡ made.at + 1 → next ≡ first + numbers e → Defined_to b e is_reached_here made seen old old seen (Ok (record { context = c; at = next }))
+  define_passed is_reached_here c first next h is q q' = passed_over h refl refl (ap told is) (ap defined is) refl (omega (arith, q, q'))
 
-  pub define_ok : (is_reached_here : Bool) (c c' : Context) (sc : Scope) (first : ℕ) (new : Unfolding) (w : Walked) → is_reached_here ≡ true → c ≡ made.context → sc ≡ nothing_seen → first ≡ made.at + 1 → Unfolded c sc first e old new (Ok w) → defined c' ≡ (b.0, known_of w.known) ∷ defined c → told c' ≡ told c → Defined_to b e is_reached_here made old new (Ok (record { context = c'; at = w.at }))
-  define_ok is_reached_here c c' sc first new w h is none q (unfolded bs g u k) ds ts =
-      defined_to bs h g
-      (subst (λ z. Unfolds (told z) (defined z) nothing_seen (1 + made.at) e old.next bs (known_of w.known) new.next) is (moved c (omega (arith, q)) (subst (λ z. Unfolds (told c) (defined c) z first e old.next bs (known_of w.known) new.next) none u)))
-      (ts ∙ ap told is) (ds ∙ ap (λ z. (b.0, known_of w.known) ∷ defined z) is) (omega (arith, q, k))
+  module _ (is_reached_here : Bool) (next : Scope) (h : is_reached_here ≡ true) (first : ℕ) (q : first ≡ made.at + 1) where
+    pub define_kept : (new : Unfolding) (w : Walked) (r : Result Made Refusal) → Unfolded made.context seen first e old new (Ok w) → IfOk r (λ m. Is_kept b made w seen m next) → IfErr r (λ x. x ≡ Memory) → Defined_to b e is_reached_here made seen old new next r
+    define_kept new w (Ok m) (unfolded bs g u k) kept _ = defined_to bs h g (moved made.context (omega (arith, q)) u) (omega (arith, q, k)) kept
+    define_kept new w (Err x) u _ m = not_defined (only_memory m)
 
-  pub define_err : (is_reached_here : Bool) (new : Unfolding) (r : Refusal) → r ≡ Memory → Defined_to b e is_reached_here made old new (Err r)
-  define_err is_reached_here new r m = not_defined (only_memory m)
-
-  pub define_stuck : (is_reached_here : Bool) (c : Context) (sc : Scope) (first : ℕ) (mid new : Unfolding) (r : Refusal) → is_reached_here ≡ true → c ≡ made.context → sc ≡ nothing_seen → first ≡ made.at + 1 → Unfolded c sc first e old mid (Err r) → Defined_to b e is_reached_here made old new (Err r)
-  define_stuck is_reached_here c sc first mid new r h is none q (refused x) =
-      not_defined (refused_as (λ w. (h, subst (λ z. Stuck (told z) (defined z) nothing_seen (1 + made.at) e) is (stuck_at c (omega (arith, q)) (subst (λ z. Stuck (told c) (defined c) z first e) none w)))) x)
+    pub define_stuck : (mid new : Unfolding) (r : Refusal) → Unfolded made.context seen first e old mid (Err r) → Defined_to b e is_reached_here made seen old new next (Err r)
+    define_stuck mid new r (refused x) = not_defined (refused_as (λ w. (h, stuck_at made.context (omega (arith, q)) w)) x)
 
 -- ---- one definition after the other
 
 -- how far the definitions have come
-pub data Definitions_from (entry : ℕ) (ds : List Definition) (T : Held_told) (old now : Unfolding) (made : Made) (i : ℕ) : Type 0 where
-  definitions_from : (bs : Bindings) → steps_of now ≡ steps_of old ++ bs → told made.context ≡ T → ((end : Tops) (cs : Bindings) (m : ℕ) → Definitions_unfold T entry (defined made.context) (flat_tops made.at (map named_term (drop i ds))) now.next cs end m → Definitions_unfold T entry [] (flat_tops 0 (map named_term ds)) old.next (bs ++ cs) end m) → (Definitions_stuck T entry (defined made.context) (flat_tops made.at (map named_term (drop i ds))) → Definitions_stuck T entry [] (flat_tops 0 (map named_term ds))) → Definitions_from entry ds T old now made i
+pub data Definitions_from (entry : ℕ) (ds : List Definition) (T : Held_told) (old now : Unfolding) (made : Made) (seen : Scope) (i : ℕ) : Type 0 where
+  definitions_from : (bs : Bindings) → steps_of now ≡ steps_of old ++ bs → told made.context ≡ T → made.at ≡ name_at 0 ds i → ((end : Tops) (cs : Bindings) (m : ℕ) → Definitions_unfold T entry seen (defined made.context) (flat_tops made.at (map named_term (drop i ds))) now.next cs end m → Definitions_unfold T entry nothing_seen [] (flat_tops 0 (map named_term ds)) old.next (bs ++ cs) end m) → (Definitions_stuck T entry seen (defined made.context) (flat_tops made.at (map named_term (drop i ds))) → Definitions_stuck T entry nothing_seen [] (flat_tops 0 (map named_term ds))) → Definitions_from entry ds T old now made seen i
+
+-- the flags say which definitions are reached, by the sizing that is told
+abbrev pub Reached_by : Held_told → ℕ → List Definition → List Bool → Type 0
+Reached_by T entry ds flags = (z : Option Sizing) → Told_by T.sizes z → Reached z entry ds flags
 
 module _ (entry : ℕ) (ds : List Definition) (old : Unfolding) where
-  pub from_start : (c : Context) → defined c ≡ [] → Definitions_from entry ds (told c) old old (record { context = c; at = 0 }) 0
-  from_start c e = definitions_from [] (not_grown (steps_of old) (steps_of old) refl) refl (λ end cs m u. subst (λ z. Definitions_unfold (told c) entry z (flat_tops 0 (map named_term ds)) old.next cs end m) e u) (λ w. subst (λ z. Definitions_stuck (told c) entry z (flat_tops 0 (map named_term ds))) e w)
+  pub from_start : (c : Context) (sc : Scope) → sc ≡ nothing_seen → defined c ≡ [] → Definitions_from entry ds (told c) old old (record { context = c; at = 0 }) sc 0
+  from_start c sc nothing e = definitions_from [] (not_grown (steps_of old) (steps_of old) refl) refl refl
+      (λ end cs m u. subst (λ z. Definitions_unfold (told c) entry nothing_seen z (flat_tops 0 (map named_term ds)) old.next cs end m) e (subst (λ z. Definitions_unfold (told c) entry z (defined c) (flat_tops 0 (map named_term ds)) old.next cs end m) nothing u))
+      (λ w. subst (λ z. Definitions_stuck (told c) entry nothing_seen z (flat_tops 0 (map named_term ds))) e (subst (λ z. Definitions_stuck (told c) entry z (defined c) (flat_tops 0 (map named_term ds))) nothing w))
 
-  module _ (T : Held_told) (now : Unfolding) (made : Made) (i : ℕ) where
-    pub from_more : (new : Unfolding) (r : Made) (d : Definition) (flags : List Bool) (c : Bool) → i < length ds → Reached entry ds flags → c ≡ is_set flags i → Definitions_from entry ds T old now made i → Defined_to (get_or ds i d).bind (term_of (get_or ds i d).value.now) c made now new (Ok r) → Definitions_from entry ds T old new r (i + 1)
+  module _ (T : Held_told) (now : Unfolding) (made : Made) (seen : Scope) (i : ℕ) where
+    -- whether the next one is reached
+    reached_here : (d : Definition) (flags : List Bool) (c b : Bool) → i < length ds → Reached_by T entry ds flags → c ≡ is_set flags i → made.at ≡ name_at 0 ds i → c ≡ b → (td : Told) → Tell T td → is_reached is_flat_use td.sizes entry (flat_tops (made.at + (1 + numbers (term_of (get_or ds i d).value.now))) (map named_term (drop (i + 1) ds))) (get_or ds i d).bind.0 ≡ b
+    reached_here d flags c b lt f flag at is td tl = sym (reached_at ds i d lt made.at at (f td.sizes tl.sizes)) ∙ sym flag ∙ is
+
+    pub from_more : (new : Unfolding) (r : Made) (next_seen : Scope) (d : Definition) (flags : List Bool) (c : Bool) → i < length ds → Reached_by T entry ds flags → c ≡ is_set flags i → Definitions_from entry ds T old now made seen i → Defined_to (get_or ds i d).bind (term_of (get_or ds i d).value.now) c made seen now new next_seen (Ok r) → Definitions_from entry ds T old new r next_seen (i + 1)
     unfolding flat_tops
-    from_more new r d flags c lt (reached l f) flag (definitions_from bs g ts k kw) h = on h
+    from_more new r next_seen d flags c lt f flag (definitions_from bs g ts at k kw) h = on h
       where
         x : Definition
         x = get_or ds i d
@@ -137,45 +147,51 @@ module _ (entry : ℕ) (ds : List Definition) (old : Unfolding) where
         next : ℕ
         next = made.at + (1 + numbers (term_of x.value.now))
 
-        told_here : c ≡ is_reached is_flat_use entry (flat_tops next (map named_term (drop (i + 1) ds))) x.bind.0
-        told_here = flag ∙ f next i d lt
+        told_here : (b : Bool) → c ≡ b → (td : Told) → Tell T td → is_reached is_flat_use td.sizes entry (flat_tops next (map named_term (drop (i + 1) ds))) x.bind.0 ≡ b
+        told_here b = reached_here d flags c b lt f flag at
 
-        here : (end : Tops) (cs : Bindings) (m : ℕ) → Definitions_unfold T entry (defined made.context) (flat_tops made.at (map named_term (x ∷ drop (i + 1) ds))) now.next cs end m → Definitions_unfold T entry [] (flat_tops 0 (map named_term ds)) old.next (bs ++ cs) end m
-        here end cs m u = k end cs m (subst (λ z. Definitions_unfold T entry (defined made.context) (flat_tops made.at (map named_term z)) now.next cs end m) (sym (one_more ds i d lt)) u)
+        at_next : r.at ≡ next → r.at ≡ name_at 0 ds (i + 1)
+        at_next q = q ∙ name_next ds i d lt made.at at
 
-        behind : {tops : Tops} {n : ℕ} (cs : Bindings) (end : Tops) (m : ℕ) → defined r.context ≡ tops → r.at ≡ next → new.next ≡ n → Definitions_unfold T entry (defined r.context) (flat_tops r.at (map named_term (drop (i + 1) ds))) new.next cs end m → Definitions_unfold T entry tops (flat_tops next (map named_term (drop (i + 1) ds))) n cs end m
-        behind {tops} {n} cs end m e q p u = subst (λ z. Definitions_unfold T entry z (flat_tops next (map named_term (drop (i + 1) ds))) n cs end m) e (subst (λ z. Definitions_unfold T entry (defined r.context) (flat_tops z (map named_term (drop (i + 1) ds))) n cs end m) q (subst (λ z. Definitions_unfold T entry (defined r.context) (flat_tops r.at (map named_term (drop (i + 1) ds))) z cs end m) p u))
+        here : (end : Tops) (cs : Bindings) (m : ℕ) → Definitions_unfold T entry seen (defined made.context) (flat_tops made.at (map named_term (x ∷ drop (i + 1) ds))) now.next cs end m → Definitions_unfold T entry nothing_seen [] (flat_tops 0 (map named_term ds)) old.next (bs ++ cs) end m
+        here end cs m u = k end cs m (subst (λ z. Definitions_unfold T entry seen (defined made.context) (flat_tops made.at (map named_term z)) now.next cs end m) (sym (one_more ds i d lt)) u)
 
-        stuck_here : Definitions_stuck T entry (defined made.context) (flat_tops made.at (map named_term (x ∷ drop (i + 1) ds))) → Definitions_stuck T entry [] (flat_tops 0 (map named_term ds))
-        stuck_here w = kw (subst (λ z. Definitions_stuck T entry (defined made.context) (flat_tops made.at (map named_term z))) (sym (one_more ds i d lt)) w)
+        behind : {sc : Scope} {tops : Tops} {n : ℕ} (td : Told) (cs : Bindings) (end : Tops) (m : ℕ) → next_seen ≡ sc → defined r.context ≡ tops → r.at ≡ next → new.next ≡ n → programs.Definitions_unfold td entry next_seen (defined r.context) (flat_tops r.at (map named_term (drop (i + 1) ds))) new.next cs end m → programs.Definitions_unfold td entry sc tops (flat_tops next (map named_term (drop (i + 1) ds))) n cs end m
+        behind {sc} {tops} {n} td cs end m se e q p u = subst (λ z. programs.Definitions_unfold td entry z tops (flat_tops next (map named_term (drop (i + 1) ds))) n cs end m) se (subst (λ z. programs.Definitions_unfold td entry next_seen z (flat_tops next (map named_term (drop (i + 1) ds))) n cs end m) e (subst (λ z. programs.Definitions_unfold td entry next_seen (defined r.context) (flat_tops z (map named_term (drop (i + 1) ds))) n cs end m) q (subst (λ z. programs.Definitions_unfold td entry next_seen (defined r.context) (flat_tops r.at (map named_term (drop (i + 1) ds))) z cs end m) p u)))
 
-        stuck_then : {tops : Tops} → defined r.context ≡ tops → r.at ≡ next → Definitions_stuck T entry (defined r.context) (flat_tops r.at (map named_term (drop (i + 1) ds))) → Definitions_stuck T entry tops (flat_tops next (map named_term (drop (i + 1) ds)))
-        stuck_then e q w = subst (λ z. Definitions_stuck T entry z (flat_tops next (map named_term (drop (i + 1) ds)))) e (subst (λ z. Definitions_stuck T entry (defined r.context) (flat_tops z (map named_term (drop (i + 1) ds)))) q w)
+        stuck_here : Definitions_stuck T entry seen (defined made.context) (flat_tops made.at (map named_term (x ∷ drop (i + 1) ds))) → Definitions_stuck T entry nothing_seen [] (flat_tops 0 (map named_term ds))
+        stuck_here w = kw (subst (λ z. Definitions_stuck T entry seen (defined made.context) (flat_tops made.at (map named_term z))) (sym (one_more ds i d lt)) w)
 
-        on : Defined_to x.bind (term_of x.value.now) c made now new (Ok r) → Definitions_from entry ds T old new r (i + 1)
-        on (passed_over passed gn nn tn dn an) = definitions_from bs (gn ∙ g) (tn ∙ ts) (λ end cs m u. here end cs m (λ td tl. d_other (sym told_here ∙ passed) ((behind cs end m dn an nn u) td tl))) (λ w. stuck_here (λ td tl. stuck_other (sym told_here ∙ passed) ((stuck_then dn an w) td tl)))
-        on (defined_to {s = s} cs taken gn v tn dn an) = definitions_from (bs ++ cs) (grown (steps_of old) (steps_of now) (steps_of new) bs cs g gn) (tn ∙ ts)
-            (λ end es m u. subst (λ z. Definitions_unfold T entry [] (flat_tops 0 (map named_term ds)) old.next z end m) (sym (append_assoc bs cs es))
-            (here end (cs ++ es) m (λ td tl. d_reached (sym told_here ∙ taken) ((subst (λ z. Unfolds z (defined made.context) nothing_seen (1 + made.at) (term_of x.value.now) now.next cs s new.next) ts v) td tl) ((behind es end m dn an refl u) td tl))))
-            (λ w. stuck_here (λ td tl. stuck_next (sym told_here ∙ taken) ((subst (λ z. Unfolds z (defined made.context) nothing_seen (1 + made.at) (term_of x.value.now) now.next cs s new.next) ts v) td tl) ((stuck_then dn an w) td tl)))
+        stuck_then : {sc : Scope} {tops : Tops} (td : Told) → next_seen ≡ sc → defined r.context ≡ tops → r.at ≡ next → lacking.Definitions_stuck td entry next_seen (defined r.context) (flat_tops r.at (map named_term (drop (i + 1) ds))) → lacking.Definitions_stuck td entry sc tops (flat_tops next (map named_term (drop (i + 1) ds)))
+        stuck_then {sc} {tops} td se e q w = subst (λ z. lacking.Definitions_stuck td entry z tops (flat_tops next (map named_term (drop (i + 1) ds)))) se (subst (λ z. lacking.Definitions_stuck td entry next_seen z (flat_tops next (map named_term (drop (i + 1) ds)))) e (subst (λ z. lacking.Definitions_stuck td entry next_seen (defined r.context) (flat_tops z (map named_term (drop (i + 1) ds)))) q w))
 
-    pub from_done : length ds ≤ i → Definitions_from entry ds T old now made i → Definitions_to T entry (flat_tops 0 (map named_term ds)) old now (Ok made)
+        -- what the next one begins with
+        sees : (s : Known) → Sees (told made.context).sizes made.at s seen next_seen → (td : Told) → Tell T td → next_seen ≡ programs.seeing td.sizes ((1 + made.at) - 1) s seen
+        sees s h td tl = h td.sizes (subst (λ (z : Held_told). Told_by z.sizes td.sizes) (sym ts) tl.sizes) ∙ (let e : made.at ≡ (1 + made.at) - 1 = omega arith in ap (λ z. programs.seeing td.sizes z s seen) e)
+
+        on : Defined_to x.bind (term_of x.value.now) c made seen now new next_seen (Ok r) → Definitions_from entry ds T old new r next_seen (i + 1)
+        on (passed_over passed gn nn tn dn sn an) = definitions_from bs (gn ∙ g) (tn ∙ ts) (at_next an)
+            (λ end cs m u. here end cs m (λ td tl. d_other (told_here false passed td tl) (behind td cs end m sn dn an nn (u td tl))))
+            (λ w. stuck_here (λ td tl. stuck_other (told_here false passed td tl) (stuck_then td sn dn an (w td tl))))
+        on (defined_to {w = w} cs taken gn v wn kept) = definitions_from (bs ++ cs) (grown (steps_of old) (steps_of now) (steps_of new) bs cs g gn) (kept.same ∙ ts) (at_next (kept.behind ∙ wn))
+            (λ end es m u. subst (λ z. Definitions_unfold T entry nothing_seen [] (flat_tops 0 (map named_term ds)) old.next z end m) (sym (append_assoc bs cs es))
+            (here end (cs ++ es) m (λ td tl. d_reached (told_here true taken td tl) ((subst (λ z. Unfolds z (defined made.context) seen (1 + made.at) (term_of x.value.now) now.next cs (known_of w.known) new.next) ts v) td tl) (behind td es end m (sees _ kept.sees td tl) kept.more (kept.behind ∙ wn) refl (u td tl)))))
+            (λ h. stuck_here (λ td tl. stuck_next (told_here true taken td tl) ((subst (λ z. Unfolds z (defined made.context) seen (1 + made.at) (term_of x.value.now) now.next cs (known_of w.known) new.next) ts v) td tl) (stuck_then td (sees _ kept.sees td tl) kept.more (kept.behind ∙ wn) (h td tl))))
+
+    pub from_done : length ds ≤ i → Definitions_from entry ds T old now made seen i → Definitions_to T entry (flat_tops 0 (map named_term ds)) old now (Ok made)
     unfolding flat_tops
-    from_done le (definitions_from bs g ts k kw) = definitions_to bs g ts (subst (λ z. Definitions_unfold T entry [] (flat_tops 0 (map named_term ds)) old.next z (defined made.context) now.next) (append-nil bs) (k (defined made.context) [] now.next (subst (λ z. Definitions_unfold T entry (defined made.context) (flat_tops made.at (map named_term z)) now.next [] (defined made.context) now.next) (sym (drop_end i ds le)) (λ td tl. d_none))))
+    from_done le (definitions_from bs g ts at k kw) = definitions_to bs g ts (subst (λ z. Definitions_unfold T entry nothing_seen [] (flat_tops 0 (map named_term ds)) old.next z (defined made.context) now.next) (append-nil bs) (k (defined made.context) [] now.next (subst (λ z. Definitions_unfold T entry seen (defined made.context) (flat_tops made.at (map named_term z)) now.next [] (defined made.context) now.next) (sym (drop_end i ds le)) (λ td tl. d_none))))
 
     -- a definition that is stuck
-    pub from_err : (new : Unfolding) (r : Refusal) (d : Definition) (flags : List Bool) (c : Bool) → i < length ds → Reached entry ds flags → c ≡ is_set flags i → Definitions_from entry ds T old now made i → Defined_to (get_or ds i d).bind (term_of (get_or ds i d).value.now) c made now new (Err r) → Definitions_to T entry (flat_tops 0 (map named_term ds)) old new (Err r)
+    pub from_err : (new : Unfolding) (next_seen : Scope) (r : Refusal) (d : Definition) (flags : List Bool) (c : Bool) → i < length ds → Reached_by T entry ds flags → c ≡ is_set flags i → Definitions_from entry ds T old now made seen i → Defined_to (get_or ds i d).bind (term_of (get_or ds i d).value.now) c made seen now new next_seen (Err r) → Definitions_to T entry (flat_tops 0 (map named_term ds)) old new (Err r)
     unfolding flat_tops
-    from_err new r d flags c lt (reached l f) flag (definitions_from bs g ts k kw) (not_defined h) = no_definitions (refused_as here h)
+    from_err new next_seen r d flags c lt f flag (definitions_from bs g ts at k kw) (not_defined h) = no_definitions (refused_as here h)
       where
         x : Definition
         x = get_or ds i d
 
-        next : ℕ
-        next = made.at + (1 + numbers (term_of x.value.now))
-
-        here : (c ≡ true) × Stuck (told made.context) (defined made.context) nothing_seen (1 + made.at) (term_of x.value.now) → Definitions_stuck T entry [] (flat_tops 0 (map named_term ds))
-        here w = kw (subst (λ z. Definitions_stuck T entry (defined made.context) (flat_tops made.at (map named_term z))) (sym (one_more ds i d lt)) (λ td tl. stuck_definition (sym (flag ∙ f next i d lt) ∙ w.0) ((subst (λ z. Stuck z (defined made.context) nothing_seen (1 + made.at) (term_of x.value.now)) ts w.1) td tl)))
+        here : (c ≡ true) × Stuck (told made.context) (defined made.context) seen (1 + made.at) (term_of x.value.now) → Definitions_stuck T entry nothing_seen [] (flat_tops 0 (map named_term ds))
+        here w = kw (subst (λ z. Definitions_stuck T entry seen (defined made.context) (flat_tops made.at (map named_term z))) (sym (one_more ds i d lt)) (λ td tl. stuck_definition (reached_here d flags c true lt f flag at w.0 td tl) ((subst (λ z. Stuck z (defined made.context) seen (1 + made.at) (term_of x.value.now)) ts w.1) td tl)))
 
 -- ---- the entry
 

@@ -11,7 +11,7 @@ use Rattle.fut_blocks.specs.Meaning.{look}
 use Rattle.fut_blocks.specs.Numbered.{Upward}
 use Rattle.fut_blocks.specs.Plain.{body_of, lets}
 use Rattle.unfold.specs.Held.{known_of}
-use Rattle.unfold.specs.Knowns.{Known, knowns, nothing_seen}
+use Rattle.unfold.specs.Knowns.{Known, Scope, knowns, nothing_seen}
 use Rattle.unfold.specs.Shapes.{All_laid, Laid, Scalar_shape, Shape, Shapes, no_shape, shape_and}
 use Rattle.unfold.specs.Stuck.{No_data}
 use Rattle.unfold.specs.Unfolding.{Bindings, names}
@@ -26,8 +26,9 @@ use Rattle.unfold_parts.specs.declared.told.Told.{Told as Held_told}
 use Rattle.unfold_program.specs.declared.program.Given.{Given}
 use Rattle.unfold_program.specs.declared.program.Made.{Made}
 use Rattle.unfold_program.specs.declared.walked.Context.{Context}
+use Rattle.unfold_program.specs.declared.walked.Walked.{Walked}
 use Rattle.unfold_program.specs.Answers.{All_applied, defined, told}
-use Rattle.unfold_parts.specs.Told.{Applies_all, Definitions_stuck, Definitions_unfold, Program_stuck, Program_unfolds, Stuck, Stuck_runs, Unfolds}
+use Rattle.unfold_parts.specs.Told.{Applies_all, Definitions_stuck, Definitions_unfold, Program_stuck, Program_unfolds, Sees, Stuck, Stuck_runs, Unfolds}
 
 -- so many scalars
 abbrev pub scalars : ℕ → Shapes
@@ -44,16 +45,24 @@ pub data Given_to (count n next : ℕ) : Result Given Refusal → Type 0 where
   given_to : {r : Given} → Upward n r.names.now next → All_laid (scalars count) (knowns (map known_of r.arguments.now)) (names r.names.now) [] → Given_to count n next (Ok r)
   not_given : Given_to count n next (Err Memory)
 
+-- A definition whose term has been walked under `seen` is known behind the others, and data is entered below all names, by the
+-- node of the definition's name.
+pub record Is_kept (b : BindId) (before : Made) (w : Walked) (seen : Scope) (r : Made) (next : Scope) : Type 0 where
+  pub same : told r.context ≡ told before.context
+  pub more : defined r.context ≡ (b.0, known_of w.known) ∷ defined before.context
+  pub sees : Sees (told before.context).sizes before.at (known_of w.known) seen next
+  pub behind : r.at ≡ w.at
+
 -- one more definition, which is passed over where it is not reached
-pub data Defined_to (b : BindId) (e : FlatTerm) (reached : Bool) (before : Made) (old new : Unfolding) : Result Made Refusal → Type 0 where
-  passed_over : {r : Made} → reached ≡ false → steps_of new ≡ steps_of old → new.next ≡ old.next → told r.context ≡ told before.context → defined r.context ≡ defined before.context → r.at ≡ before.at + (1 + numbers e) → Defined_to b e reached before old new (Ok r)
-  defined_to : {r : Made} {s : Known} (bs : Bindings) → reached ≡ true → steps_of new ≡ steps_of old ++ bs → Unfolds (told before.context) (defined before.context) nothing_seen (1 + before.at) e old.next bs s new.next → told r.context ≡ told before.context → defined r.context ≡ (b.0, s) ∷ defined before.context → r.at ≡ before.at + (1 + numbers e) → Defined_to b e reached before old new (Ok r)
-  not_defined : {r : Refusal} → Refused ((reached ≡ true) × Stuck (told before.context) (defined before.context) nothing_seen (1 + before.at) e) r → Defined_to b e reached before old new (Err r)
+pub data Defined_to (b : BindId) (e : FlatTerm) (reached : Bool) (before : Made) (seen : Scope) (old new : Unfolding) (next : Scope) : Result Made Refusal → Type 0 where
+  passed_over : {r : Made} → reached ≡ false → steps_of new ≡ steps_of old → new.next ≡ old.next → told r.context ≡ told before.context → defined r.context ≡ defined before.context → next ≡ seen → r.at ≡ before.at + (1 + numbers e) → Defined_to b e reached before seen old new next (Ok r)
+  defined_to : {r : Made} {w : Walked} (bs : Bindings) → reached ≡ true → steps_of new ≡ steps_of old ++ bs → Unfolds (told before.context) (defined before.context) seen (1 + before.at) e old.next bs (known_of w.known) new.next → w.at ≡ before.at + (1 + numbers e) → Is_kept b before w seen r next → Defined_to b e reached before seen old new next (Ok r)
+  not_defined : {r : Refusal} → Refused ((reached ≡ true) × Stuck (told before.context) (defined before.context) seen (1 + before.at) e) r → Defined_to b e reached before seen old new next (Err r)
 
 -- the definitions that an entry reaches
 pub data Definitions_to (T : Held_told) (entry : ℕ) (ds : List FlatTop) (old new : Unfolding) : Result Made Refusal → Type 0 where
-  definitions_to : {r : Made} (bs : Bindings) → steps_of new ≡ steps_of old ++ bs → told r.context ≡ T → Definitions_unfold T entry [] ds old.next bs (defined r.context) new.next → Definitions_to T entry ds old new (Ok r)
-  no_definitions : {r : Refusal} → Refused (Definitions_stuck T entry [] ds) r → Definitions_to T entry ds old new (Err r)
+  definitions_to : {r : Made} (bs : Bindings) → steps_of new ≡ steps_of old ++ bs → told r.context ≡ T → Definitions_unfold T entry nothing_seen [] ds old.next bs (defined r.context) new.next → Definitions_to T entry ds old new (Ok r)
+  no_definitions : {r : Refusal} → Refused (Definitions_stuck T entry nothing_seen [] ds) r → Definitions_to T entry ds old new (Err r)
 
 -- all steps so far as a program, whose result this is
 pub data Finished (params : List ℕ) (types : List DataType) (s : Known) (before : Unfolding) : Result Program Refusal → Type 0 where

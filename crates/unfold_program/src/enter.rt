@@ -1,12 +1,15 @@
-// What a loop begins with, and the names of a turn.
-ghost use Rattle.std.specs.Prelude.{◌≡◌};
+// What a definition and a loop begin with, and the names of a turn.
+ghost use Rattle.std.specs.Prelude.{◌≡◌, IfErr, IfOk};
 ghost use Rattle.fut_flat.specs.Erased.{pattern_of};
 ghost use Rattle.unfold.specs.Held.{known_of, scope_of};
 ghost use Rattle.unfold.specs.Unfolding.{named};
 ghost use Rattle.unfold_parts.specs.States.{steps_of};
+ghost use Rattle.unfold_parts.specs.Told.{Sees};
+ghost use Rattle.unfold_parts.specs.declared.refusal.Refusal.TheVariants as refusal;
 ghost use Rattle.unfold_program.specs.Answers.{Entered_to, Row_bound_to, Scalar_to, Turn_bound_to};
 
 use crate::walked::{Entered, Walked, WalkedScalar};
+use bumpalo::Bump;
 use fut_blocks::Atom;
 use fut_flat::Pat;
 use fut_scalar::BindId;
@@ -104,4 +107,25 @@ pub fn bind_row<'a>(
         Err(refusal) => return Err(refusal),
     };
     bind(state, sizes, row_at, row, named(name), inside)
+}
+
+/// What the definition behind one begins with, whose name has the node `node`: data is entered below all names.
+pub fn see<'a>(
+    sizes: Option<&'a Sizes<'a>>,
+    node: u32,
+    known: &Known<'a>,
+    seen: Scope<'a>,
+    bump: &'a Bump,
+) -> Result<Scope<'a>, Refusal>
+    ensures ok { IfOk result (λ next. Sees sizes.entry node (known_of known.now) (scope_of seen.entry) (scope_of next)) }
+    ensures err { IfErr result (λ r. r ≡ refusal.Memory) }
+{
+    match known.form {
+        KnownForm::Function(_) => Ok(seen),
+        KnownForm::Primitive(_, _, _) => Ok(seen),
+        _ => match told_rows::enter(sizes, node, known, seen, bump) {
+            Ok(next) => Ok(next),
+            Err(_) => Err(Refusal::Memory),
+        },
+    }
 }

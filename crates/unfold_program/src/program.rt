@@ -1,28 +1,31 @@
 // The public call: the definitions that the entry reaches, and then the entry, applied to its parameters.
-ghost use Rattle.std.specs.Prelude.{◌≡◌, [], IfErr, IfOk, length, map};
+ghost use Rattle.std.specs.Prelude.{◌≡◌, [], IfErr, IfOk, Option, length, map};
 ghost use Rattle.fut_flat.specs.Erased.{term_of};
 ghost use Rattle.fut_meaning.specs.Flats.{flat_tops, named_terms};
+ghost use Rattle.fut_meaning.specs.Found.{Sizing};
+ghost use Rattle.told_rows.specs.Tables.{Told_by};
 ghost use Rattle.unfold_reach.specs.Reach.{Reached, named_term};
-ghost use Rattle.unfold.specs.Held.{known_of};
+ghost use Rattle.unfold.specs.Held.{known_of, scope_of};
 ghost use Rattle.unfold_parts.specs.States.{steps_of};
 ghost use Rattle.unfold_parts.specs.Tables.{Kept};
 ghost use Rattle.unfold_parts.specs.declared.refusal.Refusal.TheVariants as refusal;
 ghost use Rattle.unfold_program.specs.Answers.{defined};
-ghost use Rattle.unfold_program.specs.Whole.{Are_scalars, Defined_to, Definitions_to, Entry_to, Finished, Given_to, Unfolds_to};
+ghost use Rattle.unfold_program.specs.Whole.{Are_scalars, Defined_to, Definitions_to, Entry_to, Finished, Given_to, Is_kept, Unfolds_to};
 
+use crate::enter::see;
 use crate::give::unwalked;
 use crate::walk::{apply_all, walk};
-use crate::walked::Context;
+use crate::walked::{Context, Walked};
 use bumpalo::Bump;
 use flat_numbers::{after, after_exp};
 use fut_blocks::{Atom, Program};
 use fut_flat::{Definition, Flat};
 use fut_scalar::{BindId, DataType, Scalar};
-use unfold::{Known, KnownForm};
+use unfold::{Known, KnownForm, Scope};
 use unfold_parts::{Refusal, Told, Tops, Unfolding, lay, nothing};
 use unfold_reach::{above, reached};
 
-/// What is known of some definitions, and the number of the next one.
+/// What is known of some definitions, and the number of the next one's name.
 #[derive(Drop)]
 struct Made<'a> {
     context: Context<'a>,
@@ -79,7 +82,7 @@ fn unfold_from<'a>(
         Err(refusal) => return Err(refusal),
     };
     let count = above(flat.definitions);
-    let flags = match reached(state.bump, flat.definitions, count, entry) {
+    let flags = match reached(state.bump, flat.definitions, count, entry, told.sizes) {
         Ok(flags) => flags,
         Err(_) => return Err(Refusal::Memory),
     };
@@ -131,15 +134,16 @@ fn parameters<'a>(count: usize, state: &mut Unfolding<'a>) -> Result<Given<'a>, 
     }
 }
 
-// One more definition, if it is reached.
+// One more definition, if it is reached. `seen` is what it begins with, and then what the next one does.
 fn unfold_definition<'a>(
     made: Made<'a>,
     reached: bool,
     definition: &Definition<'a>,
+    seen: &mut Scope<'a>,
     state: &mut Unfolding<'a>,
 ) -> Result<Made<'a>, Refusal>
     requires kept { Kept made.context.tops }
-    ensures defined { Defined_to definition.now.bind (term_of definition.now.value.now) reached made.entry state.old state.new result }
+    ensures defined { Defined_to definition.now.bind (term_of definition.now.value.now) reached made.entry (scope_of seen.old) state.old state.new (scope_of seen.new) result }
     ensures kept { IfOk result (λ r. Kept r.context.tops) }
 {
     let Made { context, at } = made;
@@ -155,27 +159,38 @@ fn unfold_definition<'a>(
         return Ok(Made { context, at: next });
     }
     let mut r = unwalked();
-    match walk(
-        &context,
-        0,
-        nothing(),
-        first,
-        definition.value,
-        state,
-        &mut r,
-    ) {
-        Ok(()) => (),
-        Err(refusal) => return Err(refusal),
+    match walk(&context, 0, *seen, first, definition.value, state, &mut r) {
+        Ok(()) => keep(Made { context, at }, definition.bind, r, seen, state.bump),
+        Err(refusal) => Err(refusal),
     }
+}
+
+// What is known behind a definition, whose term has been walked, and what the next one begins with.
+fn keep<'a>(
+    made: Made<'a>,
+    bind: BindId,
+    walked: Walked<'a>,
+    seen: &mut Scope<'a>,
+    bump: &'a Bump,
+) -> Result<Made<'a>, Refusal>
+    requires kept { Kept made.context.tops }
+    ensures ok { IfOk result (λ r. Is_kept bind made.entry walked.entry (scope_of seen.old) r (scope_of seen.new)) }
+    ensures err { IfErr result (λ r. r ≡ refusal.Memory) }
+    ensures kept { IfOk result (λ r. Kept r.context.tops) }
+{
+    let Made { context, at } = made;
     let Context { tops, told } = context;
-    let tops = match tops.with(definition.bind, r.known) {
-        Ok(tops) => tops,
+    *seen = match see(told.sizes, at, &walked.known, *seen, bump) {
+        Ok(next) => next,
         Err(refusal) => return Err(refusal),
     };
-    Ok(Made {
-        context: Context { tops, told },
-        at: r.at,
-    })
+    match tops.with(bind, walked.known) {
+        Ok(tops) => Ok(Made {
+            context: Context { tops, told },
+            at: walked.at,
+        }),
+        Err(refusal) => Err(refusal),
+    }
 }
 
 // The definitions that are reached, in their order.
@@ -188,15 +203,16 @@ fn unfold_definitions<'a>(
 ) -> Result<Made<'a>, Refusal>
     requires kept { Kept context.tops }
     requires none { defined context ≡ [] }
-    requires flags { Reached entry.0 definitions.now flags.now }
+    requires flags { (z : Option Sizing) → Told_by context.told.sizes z → Reached z entry.0 definitions.now flags.now }
     requires length { length flags.now ≡ length definitions.now }
     ensures defined { Definitions_to context.entry.told entry.0 (flat_tops 0 (map named_term definitions.now)) state.old state.new result }
     ensures kept { IfOk result (λ r. Kept r.context.tops) }
 {
     let mut made = Made { context, at: 0 };
+    let mut seen = nothing();
     let mut at = 0;
     for definition in definitions {
-        made = match unfold_definition(made, flags[at], definition, state) {
+        made = match unfold_definition(made, flags[at], definition, &mut seen, state) {
             Ok(made) => made,
             Err(refusal) => return Err(refusal),
         };

@@ -55,6 +55,6 @@ module _ (flat : Flat) (integers : List IntType) (entry : BindId) (params : List
       (subst (λ z. Unfolds_to T (flat_tops 0 (named_terms flat)) entry.0 z (Err r)) q u))
 
 -- the blocks of a program that is within the limits
-pub prepared : (flat : Flat) (told : Meant) (entry : BindId) (params : List DataType) (m : Measured) (r : Result Program PrepareErr) → Measures (flat_tops 0 (named_terms flat)) entry.0 (length params) (Ok m) → IfOk r (Is_blocks flat told entry params) → IfOk r (Is_prepared flat told entry params)
+pub prepared : (flat : Flat) (told : Meant) (entry : BindId) (params : List DataType) (m : Measured) (r : Result Program PrepareErr) → Measures told.sizes (flat_tops 0 (named_terms flat)) entry.0 (length params) (Ok m) → IfOk r (Is_blocks flat told entry params) → IfOk r (Is_prepared flat told entry params)
 prepared flat told entry params m (Ok p) measures is = record { measured = m; measures = measures; blocks = is }
 prepared flat told entry params m (Err e) measures is = tt

@@ -38,14 +38,14 @@ count_is [] = refl
 count_is (s ∷ ss) = let h = count_is ss in omega (arith, h)
 
 pub never_lost : (flat : Flat) (inference : Inference) (integers : List IntType) (entry : BindId) (params : List DataType) (tuple : Bool) (results : List DataType) (Z : Sizing) → Told_by (Typed_by flat inference integers) inference → Is_resolved flat → Is_told flat Z → Is_usable flat inference entry params tuple results
-    → Program_lost entry.0 (length params) (flat_tops 0 (named_terms flat)) → ⊥
+    → Program_lost (Some Z) entry.0 (length params) (flat_tops 0 (named_terms flat)) → ⊥
 never_lost flat inference integers entry params tuple results Z told made sizing usable lost =
     let N = told.some.0 in
     let known = told.holds N told.some.1 in
     let used = usable.usable.entry usable.definition N told.some.1 known.kinds known.types known.typed.typed known.comes in
-    sized_walks_never_lost N told.some.1.names known.kinds known.types (is_size_in (Some Z)) flat (walkable_so (told_with (integer_at integers) Z) known.typed (sizing_is_told flat made sizing.names sizing.sizes Z sizing.is).1) entry (data_tys params) used.result
+    sized_walks_never_lost N told.some.1.names known.kinds known.types (is_size_in (Some Z)) (Some Z) flat (walkable_so (told_with (integer_at integers) Z) known.typed (sizing_is_told flat made sizing.names sizing.sizes Z sizing.is).1) entry (data_tys params) used.result
     (subst (λ z. (scope_behind N kind.Data (typing_of flat) 0 nothing).uses z known.kinds known.types (arrows (data_tys params) used.result)) usable.is used.used) (usable.usable.takes_data known.kinds) (usable.usable.gives_data known.kinds used.result used.results_are)
-    (subst (λ n. Program_lost entry.0 n (flat_tops 0 (named_terms flat))) (sym (count_is params)) lost)
+    (subst (λ n. Program_lost (Some Z) entry.0 n (flat_tops 0 (named_terms flat))) (sym (count_is params)) lost)
 
 -- scalars, and arrays of scalars, are one component each
 data_is : (r : ℕ) (s : ScalarType) → Of_shape (array_ty r (scalar_ty s)) Scalar_shape

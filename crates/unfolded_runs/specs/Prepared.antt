@@ -1,5 +1,5 @@
 -- What is known of a program that is ready to be run, and why there is none.
-use Rattle.std.specs.Prelude.{List, length, Ok, Err}
+use Rattle.std.specs.Prelude.{List, length, Some, Ok, Err}
 use Rattle.fut_scalar.specs.declared.place.BindId.{BindId}
 use Rattle.fut_scalar.specs.declared.sizes.DataType.{DataType}
 use Rattle.fut_flat.specs.declared.program.Flat.{Flat}
@@ -34,11 +34,11 @@ pub record Is_blocks (flat : Flat) (told : Told) (entry : BindId) (params : List
 -- its walk is within the limits, and these are its blocks
 pub record Is_prepared (flat : Flat) (told : Told) (entry : BindId) (params : List DataType) (p : Program) : Type 0 where
   pub measured : Measured
-  pub measures : Measures (flat_tops 0 (named_terms flat)) entry.0 (length params) (Ok measured)
+  pub measures : Measures told.sizes (flat_tops 0 (named_terms flat)) entry.0 (length params) (Ok measured)
   pub blocks : Is_blocks flat told entry params p
 
--- with its functions unfolded the program passes a limit; want of memory says nothing
-abbrev pub Is_past : Flat → BindId → List DataType → PrepareErr → Type 0
-Is_past flat entry params err.Nodes = Measures (flat_tops 0 (named_terms flat)) entry.0 (length params) (Err measure.Nodes)
-Is_past flat entry params err.Depth = Measures (flat_tops 0 (named_terms flat)) entry.0 (length params) (Err measure.Depth)
-Is_past flat entry params err.Memory = Unit {0}
+-- with its functions unfolded the program passes a limit, where this sizing is told; want of memory says nothing
+abbrev pub Is_past : Flat → Sizing → BindId → List DataType → PrepareErr → Type 0
+Is_past flat Z entry params err.Nodes = Measures (Some Z) (flat_tops 0 (named_terms flat)) entry.0 (length params) (Err measure.Nodes)
+Is_past flat Z entry params err.Depth = Measures (Some Z) (flat_tops 0 (named_terms flat)) entry.0 (length params) (Err measure.Depth)
+Is_past flat Z entry params err.Memory = Unit {0}

@@ -1,5 +1,5 @@
 // From an accepted program to its blocks.
-ghost use Rattle.std.specs.Prelude.{◌≡◌, ℕ, List, Bool, IfOk, IfErr, length, Ok, Err};
+ghost use Rattle.std.specs.Prelude.{◌≡◌, ℕ, List, Bool, IfOk, IfErr, length, Some, Ok, Err};
 ghost use Rattle.fut_scalar.specs.declared.sizes.DataType.{DataType as Sort};
 ghost use Rattle.fut_meaning.specs.Comes.{Program_lost};
 ghost use Rattle.fut_meaning.specs.Flats.{flat_tops, named_terms};
@@ -41,21 +41,22 @@ pub enum PrepareErr {
     Memory,
 }
 
-/// The measure of a program, which is within the limits.
+/// The measure of a program whose sizing these tables tell, which is within the limits.
 fn measured<'a>(
     bump: &'a Bump,
+    sizes: &'a Sizes<'a>,
     flat: &Flat<'a>,
     entry: BindId,
     params: &[DataType],
 ) -> Result<Measured, PrepareErr>
-    requires found { Program_lost entry.0 (length params.now) (flat_tops 0 (named_terms flat.now)) → ⊥ }
-    ensures measures { IfOk result (λ m. Measures (flat_tops 0 (named_terms flat.now)) entry.0 (length params.now) (Ok m)) }
-    ensures past { IfErr result (Is_past flat.now entry params.now) }
+    requires found { (Z : Sizing) × Tells sizes.now Z × (Program_lost (Some Z) entry.0 (length params.now) (flat_tops 0 (named_terms flat.now)) → ⊥) }
+    ensures measures { (Z : Sizing) → Tells sizes.now Z → IfOk result (λ m. Measures (Some Z) (flat_tops 0 (named_terms flat.now)) entry.0 (length params.now) (Ok m)) }
+    ensures past { (Z : Sizing) → Tells sizes.now Z → IfErr result (Is_past flat.now Z entry params.now) }
 {
     let Ok(count) = u32::try_from(params.len()) else {
         return Err(PrepareErr::Memory);
     };
-    match measure(bump, flat, entry, count) {
+    match measure(bump, flat, entry, count, Some(sizes)) {
         Ok(measured) => Ok(measured),
         Err(MeasureErr::Nodes) => Err(PrepareErr::Nodes),
         Err(MeasureErr::Depth) => Err(PrepareErr::Depth),
@@ -134,11 +135,11 @@ pub fn prepare<'a>(
     requires resolved { Is_resolved program.now.accepted.now.flat }
     requires usable { (tuple : Bool) × (results : List Sort) × Is_usable program.now.accepted.now.flat program.now.accepted.now.inference entry params.now tuple results }
     ensures prepared { (Z : Sizing) → Is_sizing_told program.now Z → IfOk result (Is_prepared program.now.accepted.now.flat (told_with (integer_at program.now.accepted.now.integers) Z) entry params.now) }
-    ensures refused { IfErr result (Is_past program.now.accepted.now.flat entry params.now) }
+    ensures refused { (Z : Sizing) → Is_sizing_told program.now Z → IfErr result (Is_past program.now.accepted.now.flat Z entry params.now) }
 {
     let accepted = program.accepted;
-    let _measured = measured(bump, &accepted.flat, entry, params)?;
     let sizes = tables(alloc, bump, program)?;
+    let _measured = measured(bump, sizes, &accepted.flat, entry, params)?;
     blocks(
         bump,
         accepted.integers.as_slice(),

@@ -31,5 +31,6 @@ returns-in-Ok g c = λ source same is.
 
 pub returns-in-Err : goal.returns-in-Err
 returns-in-Err g c = λ source same is.
-    let past = rw c.as_slice-params.ensures at c.in-Err.ensures.refused in
+    let told = c.in-Err.ensures.refused (Z c.requires.known c.requires.sized c.requires.resolved) (record { names = N c.requires.known c.requires.sized c.requires.resolved; numbered = numbered c.requires.known c.requires.sized c.requires.resolved; is = is_sizing c.requires.known c.requires.sized c.requires.resolved }) in
+    let past = rw c.as_slice-params.ensures at told in
     rw c.unprepared.ensures (unready c.requires.known c.requires.sized c.requires.resolved c.requires.found (command_in c.args.command.now) source _ refl same is c.in-Err.err past)
