@@ -14,7 +14,7 @@ use Rattle.fut_typing.specs.Names.{Names}
 use Rattle.fut_aliases.specs.Aliases.{Naming}
 use Rattle.fut_aliases.specs.Calls as definition
 use Rattle.fut_aliases.specs.Calls.{Here}
-use Rattle.fut_aliases.specs.Looking.{all_looked, body_node, body_stars, body_wanted, bound_name, by_itself, function_stars, give_back, held, in_body, looked, or_plain, part_of, projected, ready, use_value, wanted_parameter, wanted_part, whole, with_argument}
+use Rattle.fut_aliases.specs.Looking.{all_looked, body_node, body_stars, body_wanted, bound_name, by_itself, function_stars, give_back, held, in_body, looked, or_plain, part_of, projected, ready, use_value, wanted_parameter, wanted_part, whole, with_argument, capture_fits}
 use Rattle.fut_aliases.specs.Capturing.{capture, captures}
 use Rattle.fut_aliases.specs.Operations.{ascribe, operation}
 use Rattle.fut_aliases.specs.Stars.{Stars, written_stars}
@@ -103,6 +103,6 @@ module _ (naming : Naming) (N : Names) (K : Kinds) (types : Sub) where
   -- ---- functions
 
   pub lambda_is : (ps : Patterns Ref BindId) (e : FlatTerm) (lo : ℕ) (h : Here) (w : Option Stars)
-      → looked naming N K types (Lambda ps e) lo h w ≡ and_then (apart (and_then (alone e (body_node naming N K types ps lo) (in_body naming N K types ps lo h) (body_wanted naming N K types ps e lo w)) (λ a. give_back naming N K types (in_body naming N K types ps lo h) (body_stars naming N K types ps e lo w) a))) (λ z. whole naming N K types (Lambda ps e) lo (Function (captures (capture N h.scope e)) (function_stars naming N K types ps (1 + lo) (body_stars naming N K types ps e lo w))))
+      → looked naming N K types (Lambda ps e) lo h w ≡ and_then (apart (and_then (alone e (body_node naming N K types ps lo) (in_body naming N K types ps lo h) (body_wanted naming N K types ps e lo w)) (λ a. give_back naming N K types (in_body naming N K types ps lo h) (body_stars naming N K types ps e lo w) a))) (λ z. and_then (capture_fits naming N K types h lo (captures (capture N h.scope e))) (λ y. whole naming N K types (Lambda ps e) lo (Function (captures (capture N h.scope e)) (function_stars naming N K types ps (1 + lo) (body_stars naming N K types ps e lo w)))))
   unfolding looked
   lambda_is ps e lo h w = refl

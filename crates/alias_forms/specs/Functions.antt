@@ -8,7 +8,7 @@ use Rattle.fut_typing.specs.Names.{Names}
 use Rattle.fut_aliases.specs.Aliases.{first_name_alone}
 use Rattle.fut_aliases.specs.Calls as definition
 use Rattle.fut_aliases.specs.Capturing.{capture, captures}
-use Rattle.fut_aliases.specs.Looking.{body_node, body_stars, body_wanted, function_stars, give_back, in_body, whole}
+use Rattle.fut_aliases.specs.Looking.{body_node, body_stars, body_wanted, capture_fits, function_stars, give_back, in_body, whole}
 use Rattle.fut_aliases.specs.Stars.{Stars}
 use Rattle.fut_aliases.specs.Steps.{Step, and_then, apart}
 use Rattle.fut_aliases.specs.Values.{Function}
@@ -31,4 +31,5 @@ pub record Enters (N : Names) (s : Site) (ps : Patterns Ref BindId) (e : FlatTer
 abbrev pub function_step : Names → Site → Patterns Ref BindId → FlatTerm → ℕ → Option Stars → Step definition.Held → Step definition.Part
 function_step N s ps e at w m =
     and_then (apart (and_then m (λ a. give_back first_name_alone N (kinds_at s) (types_at s) (in_body first_name_alone N (kinds_at s) (types_at s) ps at (here_at s)) (body_stars first_name_alone N (kinds_at s) (types_at s) ps e at w) a))) (λ z.
-    whole first_name_alone N (kinds_at s) (types_at s) (Lambda ps e) at (Function (captures (capture N (scope_of s.scope.now) e)) (function_stars first_name_alone N (kinds_at s) (types_at s) ps (1 + at) (body_stars first_name_alone N (kinds_at s) (types_at s) ps e at w))))
+    and_then (capture_fits first_name_alone N (kinds_at s) (types_at s) (here_at s) at (captures (capture N (scope_of s.scope.now) e))) (λ y.
+    whole first_name_alone N (kinds_at s) (types_at s) (Lambda ps e) at (Function (captures (capture N (scope_of s.scope.now) e)) (function_stars first_name_alone N (kinds_at s) (types_at s) ps (1 + at) (body_stars first_name_alone N (kinds_at s) (types_at s) ps e at w)))))

@@ -3,7 +3,7 @@ ghost use Rattle.std.specs.Prelude.{◌≡◌, ◌+◌, false, Ok, IfOk, Option,
 ghost use Rattle.fut_aliases.specs.Aliases.{Naming, first_name_alone};
 ghost use Rattle.fut_aliases.specs.Calls.{Held as DefinedHeld};
 ghost use Rattle.fut_aliases.specs.Capturing.{capture, captures, some_name};
-ghost use Rattle.fut_aliases.specs.Looking.{all_kept, both_wanted, function_stars, in_function, or_plain, wanted_result};
+ghost use Rattle.fut_aliases.specs.Looking.{all_kept, both_wanted, capture_fits, function_stars, in_function, or_plain, wanted_result};
 ghost use Rattle.fut_aliases.specs.Patterns.{Scope};
 ghost use Rattle.fut_aliases.specs.Stars.{Stars, spread, written_stars};
 ghost use Rattle.fut_aliases.specs.Steps.{Losses as HeldLosses, Step};
@@ -30,7 +30,7 @@ use crate::seen::{Found, Seen, Site, whole_seen};
 use alias_applications::give_back;
 use alias_captures::captured;
 use alias_joins::either;
-use alias_losses::Losses;
+use alias_losses::{Losses, Telling};
 use alias_patterns::{
     all_kept, declared_stars, function_stars, result_stars, stars_at, with_parameters,
 };
@@ -40,6 +40,7 @@ use alias_types::spread;
 use alias_values::{StarTree, ValueTree, function, union};
 use bumpalo::Bump;
 use flat_numbers::after_patterns;
+use fut_aliases::{Alias, Spot};
 use fut_flat::{Exp, Pat, TypeExp};
 use fut_scalar::NoMemory;
 use uniqueness::{Here, Stop, end_body};
@@ -184,26 +185,40 @@ pub fn enter_body<'a>(
     })
 }
 
+// Nothing that a function at a node names from outside was consumed.
+#[tactic(auto, using(crate::proofs::Binding::nothing))]
+fn capture_fits(here: &Here<'_>, losses: &Losses, at: u32, names: &[Alias]) -> Result<(), Stop>
+    ensures { (naming : Naming) (N : Names) (K : Kinds) (types : Sub) (scope : Scope) → Stepped (λ u. tt) (capture_fits naming N K types (here_of scope here.now) at names.now) losses.now losses.now result }
+{
+    if !here.asked {
+        return Ok(());
+    }
+    match losses.lost(0, Telling::TheAlias, Spot::First(at), names) {
+        Some(rule) => Err(Stop::Refused(rule)),
+        None => Ok(()),
+    }
+}
+
 // What stands for a function at a node: what its body names from outside, and its stars.
 fn function_value<'a>(
     bump: &'a Bump,
     site: &Site<'a>,
     parameters: &[Pat<'_>],
-    body: &Exp<'_>,
+    names: &'a [Alias],
     stars: &'a StarTree<'a>,
     at: u32,
 ) -> Result<&'a ValueTree<'a>, NoMemory>
     requires table { IsTable site.now.program.names.table.now }
-    ensures { (N : Names) → Knows site.now.program.names N → IfOk result (λ made. value_of made.now ≡ Function (captures (capture N (scope_of site.now.scope.now) (term_of body.now))) (function_stars first_name_alone N (kinds_at site.now) (types_at site.now) (patterns (map pattern_of parameters.now)) (1 + at) (stars_of stars.now))) }
+    ensures { (N : Names) → Knows site.now.program.names N → IfOk result (λ made. value_of made.now ≡ Function names.now (function_stars first_name_alone N (kinds_at site.now) (types_at site.now) (patterns (map pattern_of parameters.now)) (1 + at) (stars_of stars.now))) }
 {
     let first = after(at, 1)?;
-    let names = captured(bump, &site.program.names, site.scope, body)?;
     let arrows = function_stars(bump, &site.program, parameters, first, stars)?;
     let made = function(bump, names, arrows)?;
     Ok(made)
 }
 
-/// Leaves the body of a function, whose value is there: what the body consumed is put back.
+/// Leaves the body of a function, whose value is there: what the body consumed is put back, and nothing that it names from outside
+/// was consumed before.
 #[tactic(auto, using(crate::proofs::Binding::nothing))]
 pub fn end_function<'a>(
     bump: &'a Bump,
@@ -222,7 +237,11 @@ pub fn end_function<'a>(
 {
     give_back(bump, &entered.here, entered.stars, &found.held)?;
     end_body(losses, before);
-    let Ok(value) = function_value(bump, site, parameters, body, entered.stars, at) else {
+    let Ok(names) = captured(bump, &site.program.names, site.scope, body) else {
+        return Err(Stop::Memory);
+    };
+    capture_fits(&site.here, losses, at, names)?;
+    let Ok(value) = function_value(bump, site, parameters, names, entered.stars, at) else {
         return Err(Stop::Memory);
     };
     whole_seen(

@@ -208,7 +208,7 @@ call_value_is w asked base K n {s} {s'} v p u t = with_stars_is K (subst (λ m. 
 
 -- ---- use of a name
 
-no_loss : (ls : Losses) (name : Alias → Named) (used : Spot) (s : Set) → lost ls name used s ≡ None → (a : Alias) → is_in a s ≡ true → is_lost ls a ≡ false
+pub no_loss : (ls : Losses) (name : Alias → Named) (used : Spot) (s : Set) → lost ls name used s ≡ None → (a : Alias) → is_in a s ≡ true → is_lost ls a ≡ false
 unfolding lost those is_in
 no_loss ls name used s h a i = by_loss (is_lost ls a) refl
   where

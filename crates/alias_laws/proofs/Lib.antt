@@ -12,5 +12,14 @@ pub mod Operating
 pub mod Captured
 pub mod Parameters
 pub mod Forms
+pub mod OwnNames
+pub mod Carrying
+pub mod Entering
+pub mod Looks
+pub mod Functions
+pub mod Turning
+pub mod Starting
+pub mod Turns
+pub mod Loops
 pub mod Walk
 pub mod Law

@@ -79,7 +79,7 @@ first_of_both : {w : World} {s' : Set} (h : Alias) (s : Set) → SetR w (h ∷ s
 unfolding those
 first_of_both {w} h s p = p.is ∙ ap (λ k. cond k (h ∷ those (alone w) s) (those (alone w) s)) (first_alone w h s _ p)
 
-self_standing : (w : World) (n i : ℕ) (b : BindId) → w.first n i ≡ (n, i) → alone w (Part n i b) ≡ true
+pub self_standing : (w : World) (n i : ℕ) (b : BindId) → w.first n i ≡ (n, i) → alone w (Part n i b) ≡ true
 self_standing w n i b e = ap (λ p. is_alias (Part n i b) (Part p.0 p.1 b)) e ∙ same_itself (Part n i b)
 
 -- a name that stays

@@ -7,7 +7,7 @@ use Rattle.fut_aliases.specs.declared.refusals.Named.TheVariants.{ByAlias}
 use Rattle.fut_aliases.specs.declared.refusals.Spot.TheVariants.{First}
 use Rattle.fut_aliases.specs.Aliases.{Set}
 use Rattle.fut_aliases.specs.Values.{Value, aliases}
-use Rattle.fut_aliases.specs.Steps.{Answer, then_do, Losses, is_lost, Done, Step, and_then, demand, or_else, naming, some_alias}
+use Rattle.fut_aliases.specs.Steps.{Answer, then_do, Losses, is_lost, Done, Step, give, and_then, demand, or_else, naming, some_alias}
 use Rattle.fut_aliases.specs.Calls.{Held, held_loss, first_broken}
 use Rattle.alias_laws.proofs.Worlds.{World, SetR, least_is, node, Grows, grows_not, grows_on}
 use Rattle.alias_laws.proofs.Values.{ValueR, value_on, aliases_are}
@@ -106,6 +106,11 @@ since_where {w} test p = record { more = p.more; is = p.is; closed = p.closed; i
 pub gone_before : {w : World} {asked : Bool} {base ls : Losses} → (asked ≡ true → Since w base ls) → (a : Alias) → gone asked ls a ≡ false → gone asked base a ≡ false
 gone_before {asked = true} p a h = stays_lost (p refl) a h
 gone_before {asked = false} p a h = refl
+
+-- nothing is lost where no rule is asked for
+pub unlost : (asked : Bool) (ls : Losses) (a : Alias) → (asked ≡ true → is_lost ls a ≡ false) → gone asked ls a ≡ false
+unlost true ls a h = h refl
+unlost false ls a h = refl
 
 pub value_before : {w : World} {asked : Bool} {base ls : Losses} {v v' : Value} → (asked ≡ true → Since w base ls) → ValueR (avoiding w (gone asked ls)) v v' → ValueR (avoiding w (gone asked base)) v v'
 value_before {w} p q = value_on (avoiding_less (grows_not w) (gone_before p)) q
@@ -212,3 +217,27 @@ then_from {B = B} {asked = asked} {w = w} {lo = lo} {hi = hi} {base = base} {bas
 pub in_world : {A : Type 0} {asked : Bool} {w w2 : World} {lo hi a b : ℕ} {base : Losses} {S : World → Losses → A → A → Type 0} {y y' : Answer (Done A)} → Grows w w2 → Only w w2 a b → lo ≤ a → b ≤ hi → AnswerR asked w2 lo hi base S y y' → AnswerR asked w lo hi base S y y'
 in_world g o l h refused = refused
 in_world g o l h (done w3 g3 o3 p3 s3 r3) = done w3 (grows_on g g3) (only_on (omega arith) (omega arith) (only_wider l h o) o3) p3 s3 r3
+
+-- a step whose result is told in other words on either side
+pub then_via : {A G G2 B : Type 0} {asked : Bool} {w : World} {lo hi : ℕ} {base base2 : Losses} {R : World → Losses → A → A → Type 0} {S : World → Losses → B → B → Type 0} {x x' : Answer (Done A)} (a mi lo2 : ℕ) (f : A → G) (f' : A → G2) (next : G → Step B) (next' : G2 → Step B) → lo ≤ a → lo ≤ lo2 → mi ≤ hi
+    → AnswerR asked w a mi base2 R x x'
+    → ((w2 : World) (y y' : A) (ls ls' : Losses) → Grows w w2 → Only w w2 a mi → LossesR w2 ls ls' → (asked ≡ true → Since w2 base2 ls) → R w2 ls y y' → AnswerR asked w2 lo2 hi base S (next (f y) ls) (next' (f' y') ls'))
+    → AnswerR asked w lo hi base S (then_do (then_do x (λ d. give (f d.result) d.losses)) (λ d. next d.result d.losses)) (then_do (then_do x' (λ d. give (f' d.result) d.losses)) (λ d. next' d.result d.losses))
+then_via a mi lo2 f f' next next' l m h refused k = refused
+then_via a mi lo2 f f' next next' l m h (done w2 g o p s r) k = then_from a mi lo2 (λ y. next (f y)) (λ y. next' (f' y)) l m h (done w2 g o p s r) k
+
+-- what is asked last is told
+pub demand_told : (asked : Bool) {w : World} {lo hi : ℕ} {base : Losses} {b' : Option Broken} {ls ls' : Losses} (rule : Losses → Option Broken) → LossesR w ls ls' → (asked ≡ true → Since w base ls) → (asked ≡ true → b' ≡ rule ls)
+    → AnswerR asked w lo hi base (λ (w2 : World) (ms : Losses) (u u' : Unit {0}). asked ≡ true → rule ms ≡ None) (demand asked (rule ls) ls) (demand asked b' ls')
+demand_told false {w} {lo} {hi} rule l s e = done w (grows_not w) (only_these w lo hi) l s (λ h. cc)
+demand_told true {w} {lo} {hi} {base} {b'} {ls} {ls'} rule l s e = subst (λ c. AnswerR true w lo hi base (λ (w2 : World) (ms : Losses) (u u' : Unit {0}). true ≡ true → rule ms ≡ None) (demand true (rule ls) ls) (demand true c ls')) (sym (e refl)) (by_rule (rule ls) refl)
+  where
+    by_rule : (b : Option Broken) → rule ls ≡ b → AnswerR true w lo hi base (λ (w2 : World) (ms : Losses) (u u' : Unit {0}). true ≡ true → rule ms ≡ None) (demand true b ls) (demand true b ls')
+    by_rule None h = done w (grows_not w) (only_these w lo hi) l s (λ k. h)
+    by_rule (Some x) h = refused
+
+-- the same answers, told from an earlier point
+pub retold : {A : Type 0} {asked : Bool} {w : World} {lo hi lo2 hi2 : ℕ} {base base2 : Losses} {R S : World → Losses → A → A → Type 0} {x x' : Answer (Done A)} → lo2 ≤ lo → hi ≤ hi2 → ((w2 : World) (ls : Losses) → Grows w w2 → (asked ≡ true → Since w2 base2 ls) → asked ≡ true → Since w2 base ls) → ((w2 : World) (a a' : A) (ls : Losses) → Grows w w2 → R w2 ls a a' → S w2 ls a a')
+    → AnswerR asked w lo hi base2 R x x' → AnswerR asked w lo2 hi2 base S x x'
+retold l h t k refused = refused
+retold l h t k (done {a} {a'} {ls} {ls'} w2 g o p s r) = done w2 g (only_wider l h o) p (t w2 ls g s) (k w2 a a' ls g r)

@@ -5,8 +5,6 @@ use Rattle.fut_typing.specs.Names.{Names}
 use Rattle.fut_typing.specs.Program.{Defined}
 use Rattle.fut_aliases.specs.Aliases.{with_alias, first_name_alone}
 use Rattle.fut_aliases.specs.Programs.{first_broken}
-use Rattle.alias_laws.specs.Straight.{Straight_definitions}
 
--- of programs without loops, and without functions inside definitions
 abbrev pub KeptNamesAnswerTheSame : Type 0
-KeptNamesAnswerTheSame = (N : Names) (K : Kinds) (types : Sub) (ds : List Defined) → Straight_definitions ds → first_broken first_name_alone N K types ds ≡ first_broken with_alias N K types ds
+KeptNamesAnswerTheSame = (N : Names) (K : Kinds) (types : Sub) (ds : List Defined) → first_broken first_name_alone N K types ds ≡ first_broken with_alias N K types ds

@@ -3,17 +3,18 @@ use Rattle.std.proofs.lemmas.Bool.{eq-eqb}
 use Rattle.std.proofs.Common.{◌≡◌, ℕ, ◌+◌, ◌<◌, ◌≤◌, Bool, true, false, ◌&&◌, nat_eq, cond, List, [], ◌∷◌, ◌++◌, length, get_or, drop, is_some, Option, Some, None, Ok, Err, refl, sym, ap, ◌∙◌, subst, append_assoc}
 use Rattle.fut_aliases.specs.declared.aliases.Alias.{Alias}
 use Rattle.fut_aliases.specs.declared.refusals.Broken.{Broken}
-use Rattle.fut_aliases.specs.declared.refusals.Broken.TheVariants.{ResultAliases}
+use Rattle.fut_aliases.specs.declared.refusals.Broken.TheVariants.{Consumed, ResultAliases}
 use Rattle.fut_aliases.specs.declared.refusals.Named.TheVariants.{ByAlias}
+use Rattle.fut_aliases.specs.declared.refusals.Spot.{Spot}
 use Rattle.fut_aliases.specs.declared.refusals.Spot.TheVariants.{First}
 use Rattle.fut_aliases.specs.declared.aliases.Alias.TheVariants.{Part, Own}
 use Rattle.fut_aliases.specs.declared.refusals.Loss.{Loss}
-use Rattle.fut_aliases.specs.Aliases.{Set, is_alias, least}
+use Rattle.fut_aliases.specs.Aliases.{Set, is_alias, is_outside, least, those}
 use Rattle.fut_aliases.specs.Calls.{Here, Held, first_broken, held_loss}
 use Rattle.fut_aliases.specs.Loops as definition
-use Rattle.fut_aliases.specs.Loops.{consume_firsts, eaten_captured, eaten_not_consumable, enter, kept_names, leave, shared_firsts, shared_results}
+use Rattle.fut_aliases.specs.Loops.{consume_firsts, eaten_captured, eaten_not_consumable, enter, given_loss, kept_names, leave, shared_firsts, shared_results}
 use Rattle.fut_aliases.specs.Steps as steps
-use Rattle.fut_aliases.specs.Steps.{Losses, Step, and_then, behind, consume, demand, is_lost, lose, lose_all, losses_at, losses_now, lost_at, naming, or_else, some_alias, then_do}
+use Rattle.fut_aliases.specs.Steps.{Losses, Step, and_then, behind, consume, consumed_at, demand, first_loss, is_lost, lose, lose_all, losses_at, losses_now, lost, lost_at, naming, or_else, some_alias, then_do}
 use Rattle.alias_values.proofs.Rows.{drop_past, one_more}
 use Rattle.uniqueness.specs.Answers.{Grows, Stepped, stepped, refused}
 use Rattle.uniqueness.specs.declared.held.Stop.TheVariants as stop
@@ -21,7 +22,7 @@ use Rattle.uniqueness.proofs.Growing.{grows_not, lose_all_grows}
 use Rattle.uniqueness.proofs.Stepping.{behind_rules}
 use Rattle.alias_loops.specs.declared.carried.Carried.{Carried}
 use Rattle.alias_loops.specs.Carried.{carried_of, carrieds_of}
-use Rattle.alias_loops.specs.Rules.{Consumes, enter_rules, leave_rules}
+use Rattle.alias_loops.specs.Rules.{Consumes, enter_rules, leave_rules, outside_loss}
 
 grows_on : (ls ms ns : Losses) → Grows ls ms → Grows ms ns → Grows ls ns
 grows_on ls ms ns (p, e) (q, f) = (p ++ q, f ∙ ap (λ z. z ++ q) e ∙ append_assoc ls p q)
@@ -81,19 +82,59 @@ module _ (h : Here) (first : Held) (over : Set) (body : ℕ) (cs : List definiti
 
 -- ---- behind the body
 
-module _ (h : Here) (from body : ℕ) (cs : List definition.Carried) (gs : List Set) (ls : Losses) where
-  leave_is : leave h from body cs gs ls ≡ behind_rules (cond h.asked (leave_rules from body cs gs) None) (Ok (record { result = tt; losses = ls }))
-  leave_is = demand_is h.asked (leave_rules from body cs gs)
-    where
-      demand_is : (asked : Bool) (rule : Option Broken) → demand asked rule ls ≡ behind_rules (cond asked rule None) (Ok (record { result = tt; losses = ls }))
-      demand_is true (Some b) = refl
-      demand_is true None = refl
-      demand_is false rule = refl
+-- the first of a set that breaks a rule
+module _ (rule : Alias → Option Broken) (s : Set) (i : ℕ) where
+  alias_at : (d : Alias) (b : Option Broken) → i < length s → b ≡ rule (get_or s i d) → first_broken rule (drop i s) ≡ or_else b (first_broken rule (drop (i + 1) s))
+  alias_at d b l e = ap (first_broken rule) (one_more s i d l) ∙ ap (λ z. or_else z (first_broken rule (drop (i + 1) s))) (sym e)
 
-  pub leave_refused : (b : Broken) (rule : Option Broken) → rule ≡ cond h.asked (leave_rules from body cs gs) None → rule ≡ Some b → Stepped (λ (u : Unit {0}). tt) (leave h from body cs gs) ls ls (Err (stop.Refused b))
+  pub alias_more : (d : Alias) (b : Option Broken) → i < length s → b ≡ rule (get_or s i d) → is_some b ≡ false → first_broken rule s ≡ first_broken rule (drop i s) → first_broken rule s ≡ first_broken rule (drop (i + 1) s)
+  alias_more d None l e n h = h ∙ alias_at d None l e
+  alias_more d (Some b) l e n h = cc
+
+module _ (ls : Losses) (from body : ℕ) where
+  -- the least that is lost of what is outside is the first of these
+  least_is_first : (s : Set) → lost ls ByAlias (First body) (those (is_outside from) s) ≡ first_broken (outside_loss ls from body) s
+  unfolding lost those
+  least_is_first [] = refl
+  least_is_first (a ∷ s) = by_place (is_outside from a) (lost_at ls a) refl (least_is_first s)
+    where
+      by_place : (x : Bool) (o : Option Spot) → lost_at ls a ≡ o → first_loss ls ByAlias (First body) (least (those (is_lost ls) (those (is_outside from) s))) ≡ first_broken (outside_loss ls from body) s
+          → first_loss ls ByAlias (First body) (least (those (is_lost ls) (cond x (a ∷ those (is_outside from) s) (those (is_outside from) s)))) ≡ or_else (cond x (consumed_at (λ p. Consumed (ByAlias a) p (First body)) (lost_at ls a)) None) (first_broken (outside_loss ls from body) s)
+      by_place false o e h = h
+      by_place true None e h = rw e h
+      by_place true (Some p) e h = rw (e, e) refl
+
+  pub given_here : (c : Carried) (i : ℕ) (d : Alias) (b : Option Broken) → i < length c.gives.now → b ≡ outside_loss ls from body (get_or c.gives.now i d) → is_some b ≡ true → first_broken (outside_loss ls from body) c.gives.now ≡ first_broken (outside_loss ls from body) (drop i c.gives.now) → b ≡ given_loss ls from body (carried_of c)
+  given_here c i d None l e n h = cc
+  given_here c i d (Some b) l e n h = sym (least_is_first c.gives.now ∙ h ∙ alias_at (outside_loss ls from body) c.gives.now i d (Some b) l e)
+
+  pub given_end : (c : Carried) (i : ℕ) → length c.gives.now ≤ i → first_broken (outside_loss ls from body) c.gives.now ≡ first_broken (outside_loss ls from body) (drop i c.gives.now) → None ≡ given_loss ls from body (carried_of c)
+  given_end c i l h = sym (least_is_first c.gives.now ∙ h ∙ ap (first_broken (outside_loss ls from body)) (drop_past c.gives.now i l))
+
+pub leave_rules_are : (ls : Losses) (from body : ℕ) (cs : List definition.Carried) (gs given : List Set) (asked : Bool) (shared lost all : Option Broken) (a : Option Alias) → asked ≡ true → gs ≡ given → a ≡ least (shared_results from (kept_names cs) [] cs gs) → shared ≡ naming (λ b. ResultAliases (ByAlias b) (First body)) a → lost ≡ first_broken (given_loss ls from body) cs → all ≡ or_else shared lost
+    → all ≡ cond asked (leave_rules ls from body cs given) None
+leave_rules_are ls from body cs gs given false shared lost all a t d e f g h = cc
+leave_rules_are ls from body cs gs given true shared lost all a t d e f g h =
+    h ∙ ap (λ z. or_else z lost) (f ∙ ap (naming (λ b. ResultAliases (ByAlias b) (First body))) (e ∙ ap (λ z. least (shared_results from (kept_names cs) [] cs z)) d)) ∙ ap (λ z. or_else (some_alias (λ n. ResultAliases n (First body)) (shared_results from (kept_names cs) [] cs given)) z) g
+
+-- two demands, of which the second looks at what was consumed
+two_demands : (asked : Bool) (r : Option Broken) (u : Losses → Option Broken) (ls : Losses) → and_then (demand asked r) (λ z. and_then losses_now (λ ks. demand asked (u ks))) ls ≡ behind_rules (cond asked (or_else r (u ls)) None) (Ok (record { result = tt; losses = ls }))
+two_demands false r u ls = refl
+two_demands true (Some b) u ls = refl
+two_demands true None u ls = last_demand (u ls)
+  where
+    last_demand : (o : Option Broken) → demand true o ls ≡ behind_rules o (Ok (record { result = tt; losses = ls }))
+    last_demand None = refl
+    last_demand (Some b) = refl
+
+module _ (h : Here) (from body : ℕ) (cs : List definition.Carried) (gs : List Set) (ls : Losses) where
+  leave_is : leave h from body cs gs ls ≡ behind_rules (cond h.asked (leave_rules ls from body cs gs) None) (Ok (record { result = tt; losses = ls }))
+  leave_is = two_demands h.asked (some_alias (λ n. ResultAliases n (First body)) (shared_results from (kept_names cs) [] cs gs)) (λ ks. first_broken (given_loss ks from body) cs) ls
+
+  pub leave_refused : (b : Broken) (rule : Option Broken) → rule ≡ cond h.asked (leave_rules ls from body cs gs) None → rule ≡ Some b → Stepped (λ (u : Unit {0}). tt) (leave h from body cs gs) ls ls (Err (stop.Refused b))
   leave_refused b rule r e = refused (leave_is ∙ ap (λ z. behind_rules z (Ok (record { result = tt; losses = ls }))) (sym r ∙ e))
 
-  pub leave_done : (rule : Option Broken) → rule ≡ cond h.asked (leave_rules from body cs gs) None → rule ≡ None → Stepped (λ (u : Unit {0}). tt) (leave h from body cs gs) ls ls (Ok tt)
+  pub leave_done : (rule : Option Broken) → rule ≡ cond h.asked (leave_rules ls from body cs gs) None → rule ≡ None → Stepped (λ (u : Unit {0}). tt) (leave h from body cs gs) ls ls (Ok tt)
   leave_done rule r e = stepped (leave_is ∙ ap (λ z. behind_rules z (Ok (record { result = tt; losses = ls }))) (sym r ∙ e)) (grows_not ls)
 
 -- ---- what is consumed before the first turn

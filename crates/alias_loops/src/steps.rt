@@ -1,12 +1,12 @@
 // Steps: what is asked and consumed before the first turn, and what is asked behind each.
 ghost use Rattle.std.specs.Prelude.{◌≡◌, IfOk, None, Ok, OnOk, cond, length};
 ghost use Rattle.fut_aliases.specs.Calls.{first_broken, held_loss};
-ghost use Rattle.fut_aliases.specs.Loops.{consume_firsts, eaten_captured, eaten_not_consumable, enter, leave};
+ghost use Rattle.fut_aliases.specs.Loops.{consume_firsts, eaten_captured, eaten_not_consumable, enter, given_loss, leave};
 ghost use Rattle.fut_aliases.specs.Patterns.{Scope};
 ghost use Rattle.fut_aliases.specs.Steps.{Losses as HeldLosses, behind, lose_all, losses_at, naming, or_else};
 ghost use Rattle.fut_aliases.specs.Values.{components};
 ghost use Rattle.alias_loops.specs.Carried.{carried_of, carrieds_of};
-ghost use Rattle.alias_loops.specs.Rules.{Consumes, enter_rules, leave_rules};
+ghost use Rattle.alias_loops.specs.Rules.{Consumes, enter_rules, leave_rules, outside_loss};
 ghost use Rattle.fut_aliases.specs.declared.refusals.Broken.TheVariants.{ResultAliases};
 ghost use Rattle.fut_aliases.specs.declared.refusals.Named.TheVariants.{ByAlias};
 ghost use Rattle.fut_aliases.specs.declared.refusals.Spot.TheVariants.{First};
@@ -18,7 +18,7 @@ use crate::carried::Carried;
 use crate::sharing::{least_shared_first, least_shared_result};
 use alias_joins::components;
 use alias_losses::{Losses, Telling};
-use alias_values::ValueTree;
+use alias_values::{ValueTree, is_outside};
 use bumpalo::Bump;
 use fut_aliases::{Alias, Broken, Loss, Named, Spot};
 use fut_scalar::NoMemory;
@@ -187,36 +187,83 @@ pub fn enter(
     }
 }
 
+// An alias from outside that was consumed.
+fn outside_loss(losses: &Losses, from: u32, body: u32, alias: Alias) -> Option<Broken>
+    ensures { result ≡ outside_loss losses.now from body alias }
+{
+    if !is_outside(from, alias) {
+        return None;
+    }
+    match losses.lost_at(alias) {
+        Some(at) => Some(Broken::Consumed(Named::ByAlias(alias), at, Spot::First(body))),
+        None => None,
+    }
+}
+
+// What the body gives from outside for a parameter was not consumed.
+fn given_loss(losses: &Losses, from: u32, body: u32, one: &Carried<'_>) -> Option<Broken>
+    ensures { result ≡ given_loss losses.now from body (carried_of one.now) }
+{
+    for i in 0..one.gives.len() {
+        let broken = outside_loss(losses, from, body, one.gives[i]);
+        if broken.is_some() {
+            return broken;
+        }
+    }
+    None
+}
+
+fn first_given_loss(
+    losses: &Losses,
+    from: u32,
+    body: u32,
+    carried: &[Carried<'_>],
+) -> Option<Broken>
+    ensures { result ≡ first_broken (given_loss losses.now from body) (carrieds_of carried.now) }
+{
+    for i in 0..carried.len() {
+        let broken = given_loss(losses, from, body, &carried[i]);
+        if broken.is_some() {
+            return broken;
+        }
+    }
+    None
+}
+
 fn leave_refusal(
     bump: &Bump,
     here: &Here<'_>,
+    losses: &Losses,
     from: u32,
     body: u32,
     carried: &[Carried<'_>],
     given: &ValueTree<'_>,
 ) -> Result<Option<Broken>, NoMemory>
-    ensures { IfOk result (λ broken. broken ≡ cond here.now.asked (leave_rules from body (carrieds_of carried.now) (components (value_of given.now))) None) }
+    ensures { IfOk result (λ broken. broken ≡ cond here.now.asked (leave_rules losses.now from body (carrieds_of carried.now) (components (value_of given.now))) None) }
 {
     if !here.asked {
         return Ok(None);
     }
     let sets = components(bump, given)?;
-    Ok(result_alias(body, least_shared_result(from, carried, sets)))
+    let shared = result_alias(body, least_shared_result(from, carried, sets));
+    let lost = first_given_loss(losses, from, body, carried);
+    Ok(first_of(shared, lost))
 }
 
 /// What the body, at a node, gives for a parameter that it consumes shares with nothing from outside of the loop, which begins at
-/// `from`, nor with another parameter or component.
+/// `from`, nor with another parameter or component; and what it gives from outside was not consumed.
 pub fn leave(
     bump: &Bump,
     here: &Here<'_>,
+    losses: &Losses,
     from: u32,
     body: u32,
     carried: &[Carried<'_>],
     given: &ValueTree<'_>,
 ) -> Result<(), Stop>
-    ensures { (scope : Scope) (losses : HeldLosses) → Stepped (λ u. tt) (leave (here_of scope here.now) from body (carrieds_of carried.now) (components (value_of given.now))) losses losses result }
+    ensures { (scope : Scope) → Stepped (λ u. tt) (leave (here_of scope here.now) from body (carrieds_of carried.now) (components (value_of given.now))) losses.now losses.now result }
 {
-    let Ok(broken) = leave_refusal(bump, here, from, body, carried, given) else {
+    let Ok(broken) = leave_refusal(bump, here, losses, from, body, carried, given) else {
         return Err(Stop::Memory);
     };
     match broken {

@@ -59,7 +59,7 @@ module _ (naming : Naming) (N : Names) where
   unfolding own_names
   function_owns ps q x u = refl
 
-  record_owns : (fs : List Text) (ps : Patterns Ref BindId) (q : ℕ) (v : Value) → fields_own_names naming N fs ps (1 + q) v ≡ own_names naming N (Record_pattern fs ps) q v
+  record_owns : (fs : List Text) (ps : Patterns Ref BindId) (q : ℕ) (v : Value) → fields_own_names naming N fs ps (1 + q) v v ≡ own_names naming N (Record_pattern fs ps) q v
   unfolding own_names fields_own_names
   record_owns fs ps q v = refl
 
@@ -100,10 +100,10 @@ module _ (naming : Naming) (N : Names) where
       pub owns_function : (x : Bor Set) (u : Bor StarTree) → v ≡ value.Function x u → Owns (value_of v)
       owns_function x u i = same_value _ (ap value_of i ∙ value_function x u) (function_owns _ q x.now (stars_of u.now))
 
-    pub owns_fields : (made : Value) (fs : Bor (List PatField)) (first : ℕ) → p.form ≡ form.Record fs → first ≡ q + 1 → made ≡ fields_own_names naming N (field_names fs.now) (field_patterns fs.now) first (value_of v) → Owns made
+    pub owns_fields : (made : Value) (fs : Bor (List PatField)) (first : ℕ) → p.form ≡ form.Record fs → first ≡ q + 1 → made ≡ fields_own_names naming N (field_names fs.now) (field_patterns fs.now) first (value_of v) (value_of v) → Owns made
     owns_fields made fs first is one e =
         let o : first ≡ 1 + q = omega (arith, one) in
-        by_form made _ _ (record_pattern p fs is) refl (e ∙ ap (λ z. fields_own_names naming N (field_names fs.now) (field_patterns fs.now) z (value_of v)) o ∙ record_owns (field_names fs.now) (field_patterns fs.now) q (value_of v))
+        by_form made _ _ (record_pattern p fs is) refl (e ∙ ap (λ z. fields_own_names naming N (field_names fs.now) (field_patterns fs.now) z (value_of v) (value_of v)) o ∙ record_owns (field_names fs.now) (field_patterns fs.now) q (value_of v))
 
     pub owns_typed : (made : Value) (o : Bor Pat) (e : Bor TypeExp) → p.form ≡ form.Typed o e → made ≡ own_names naming N (pattern_of o.now) q (value_of v) → Owns made
     owns_typed made o e is h = by_form made _ _ (pattern_typed p o e is) refl (h ∙ typed_owns (pattern_of o.now) (written_type e.now) q (value_of v))
@@ -149,19 +149,19 @@ module _ (naming : Naming) (N : Names) where
 
   module _ (fs : List PatField) (q : ℕ) (v : Value) where
     abbrev pub Fields_own : ℕ → ℕ → Value → Type 0
-    Fields_own i at made = fields_own_names naming N (field_names fs) (field_patterns fs) q v ≡ fields_own_names naming N (field_names (drop i fs)) (field_patterns (drop i fs)) at made
+    Fields_own i at made = fields_own_names naming N (field_names fs) (field_patterns fs) q v v ≡ fields_own_names naming N (field_names (drop i fs)) (field_patterns (drop i fs)) at v made
 
     module _ (i at : ℕ) (made : Value) (h : Fields_own i at made) where
-      pub fields_more : (f : PatField) (part own next_value : Value) (next : ℕ) → i < length fs → part ≡ part_named N (get_or fs i f).name.now made → own ≡ own_names naming N (pattern_of (get_or fs i f).pat) at part → next_value ≡ with_part_named N (get_or fs i f).name.now own made
+      pub fields_more : (f : PatField) (part own next_value : Value) (next : ℕ) → i < length fs → part ≡ part_named N (get_or fs i f).name.now v → own ≡ own_names naming N (pattern_of (get_or fs i f).pat) at part → next_value ≡ with_part_named N (get_or fs i f).name.now own made
           → next ≡ at + pattern_numbers (pattern_of (get_or fs i f).pat) → Fields_own (i + 1) next next_value
       unfolding fields_own_names
       fields_more f part own next_value next l w o e n =
-          h ∙ ap (λ z. fields_own_names naming N z (field_patterns (drop i fs)) at made) (names_at (λ (f : PatField). f.name.now) fs i f l)
-          ∙ ap (λ z. fields_own_names naming N ((get_or fs i f).name.now ∷ field_names (drop (i + 1) fs)) z at made) (patterns_at (λ (f : PatField). pattern_of f.pat) fs i f l)
-          ∙ ap (λ z. fields_own_names naming N (field_names (drop (i + 1) fs)) (field_patterns (drop (i + 1) fs)) z (with_part_named N (get_or fs i f).name.now (own_names naming N (pattern_of (get_or fs i f).pat) at (part_named N (get_or fs i f).name.now made)) made)) (sym n)
-          ∙ ap (fields_own_names naming N (field_names (drop (i + 1) fs)) (field_patterns (drop (i + 1) fs)) next)
+          h ∙ ap (λ z. fields_own_names naming N z (field_patterns (drop i fs)) at v made) (names_at (λ (f : PatField). f.name.now) fs i f l)
+          ∙ ap (λ z. fields_own_names naming N ((get_or fs i f).name.now ∷ field_names (drop (i + 1) fs)) z at v made) (patterns_at (λ (f : PatField). pattern_of f.pat) fs i f l)
+          ∙ ap (λ z. fields_own_names naming N (field_names (drop (i + 1) fs)) (field_patterns (drop (i + 1) fs)) z v (with_part_named N (get_or fs i f).name.now (own_names naming N (pattern_of (get_or fs i f).pat) at (part_named N (get_or fs i f).name.now v)) made)) (sym n)
+          ∙ ap (fields_own_names naming N (field_names (drop (i + 1) fs)) (field_patterns (drop (i + 1) fs)) next v)
           (sym (e ∙ ap (λ z. with_part_named N (get_or fs i f).name.now z made) (o ∙ ap (own_names naming N (pattern_of (get_or fs i f).pat) at) w)))
 
-      pub fields_end : length fs ≤ i → made ≡ fields_own_names naming N (field_names fs) (field_patterns fs) q v
+      pub fields_end : length fs ≤ i → made ≡ fields_own_names naming N (field_names fs) (field_patterns fs) q v v
       unfolding fields_own_names
-      fields_end l = sym (h ∙ ap (λ z. fields_own_names naming N z (field_patterns (drop i fs)) at made) (names_end (λ (f : PatField). f.name.now) fs i l))
+      fields_end l = sym (h ∙ ap (λ z. fields_own_names naming N z (field_patterns (drop i fs)) at v made) (names_end (λ (f : PatField). f.name.now) fs i l))

@@ -98,12 +98,12 @@ fn fields_own_names<'a>(
     value: &'a ValueTree<'a>,
 ) -> Result<&'a ValueTree<'a>, NoMemory>
     requires table { IsTable program.now.names.table.now }
-    ensures { (N : Names) → Knows program.now.names N → IfOk result (λ made. value_of made.now ≡ fields_own_names first_name_alone N (field_names fields.now) (field_patterns fields.now) node (value_of value.now)) }
+    ensures { (N : Names) → Knows program.now.names N → IfOk result (λ made. value_of made.now ≡ fields_own_names first_name_alone N (field_names fields.now) (field_patterns fields.now) node (value_of value.now) (value_of value.now)) }
 {
     let mut made = Made { value };
     let mut at = node;
     for field in fields {
-        let part = part_named(bump, &program.names, field.name, made.value)?;
+        let part = part_named(bump, &program.names, field.name, value)?;
         let own = own_names(bump, program, &field.pat, at, part)?;
         let value = with_part_named(bump, &program.names, field.name, own, made.value)?;
         made = Made { value };

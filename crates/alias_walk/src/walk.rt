@@ -851,6 +851,7 @@ fn asked_looked<'a>(
     leave(
         bump,
         &site.here,
+        losses,
         at,
         flow.body,
         flow.carried,

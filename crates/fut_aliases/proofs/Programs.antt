@@ -1,5 +1,5 @@
 -- Programs, and the first rule that each breaks.
-use Rattle.std.proofs.Common.{◌≡◌, ℕ, zero, suc, true, false, List, [], ◌∷◌, map, Option, Some, None, cond, refl}
+use Rattle.std.proofs.Common.{◌≡◌, ℕ, zero, suc, true, false, List, [], ◌∷◌, ◌++◌, map, Option, Some, None, cond, refl}
 use Rattle.std.specs.Prelude.{codes}
 use Rattle.std.specs.Str.{bytes_eq}
 use Rattle.fut_scalar.specs.declared.operator.BinOp.TheVariants as op
@@ -564,3 +564,31 @@ name_within = record { types = (fun_ty ints (fun_ty ints i64_ty)) ∷ (fun_ty in
 orders_answered : map found (value_before_parameter ∷ parameter_before_captured ∷ parameter_before_second_argument ∷ captured_before_second_argument ∷ second_argument_before_result ∷ first_in_order ∷ least_name ∷ name_within ∷ []) ≡ map answer (value_before_parameter ∷ parameter_before_captured ∷ parameter_before_second_argument ∷ captured_before_second_argument ∷ second_argument_before_result ∷ first_in_order ∷ least_name ∷ name_within ∷ [])
 unfolding is_in with_alias union those spread all_spread written_stars tuple_stars record_stars has_star some_has_star lacks_star some_lacks_star adds_star some_adds_star consumes some_consumes consumes_more consumed_more some_consumes_more some_consumed_more gives_less given_less some_gives_less some_given_less either all_either of_type of_types with_stars all_with_stars at_type all_at_type components all_components with_sets all_with_sets named all_named starring all_starring functions all_functions ascribed all_ascribed part_named with_part_named lose_all lost pattern_stars patterns_stars fields_stars bound all_bound fields_bound kept all_kept fields_kept capture all_captured turns_captured some_name name_in turns_name own_names all_own_names fields_own_names starts all_starts fields_start misfit all_misfit fields_misfit looked all_looked turns_looked condition_looked value_looked first_broken place_from place part_at
 orders_answered = refl
+
+-- ---- one number for two names, which no source has: what a function shares with is told by its number, and the last name of a
+-- component is its own
+
+abbrev ints_to : ℕ → List Ty
+ints_to zero = []
+ints_to (suc n) = ints ∷ ints_to n
+
+abbrev new_array : FlatTerm
+new_array = strict Array_of 0 (literal 1 ∷ [])
+
+abbrev overwritten : ℕ → FlatTerm → FlatTerm
+overwritten column a = strict Update column (a ∷ literal 1 ∷ literal 0 ∷ [])
+
+-- def main = let x = [1] let y = x let z = x with [0] = 1 in (\y -> y, (\y -> y) with [0] = 1)
+abbrev named_twice : Case
+named_twice = record { types = ints_to 24; program = define 0 (let_in (name 1) new_array (let_in (name 2) (var 1 0) (let_in (name 3) (overwritten 10 (var 1 0)) (strict Tuple_of 0 (lambda (name 2 ∷ []) (var 2 0) ∷ overwritten 20 (lambda (name 2 ∷ []) (var 2 0)) ∷ []))))) ∷ []; answer = Some (Consumed (ByAlias (Part 2 0 (b 1))) (Mark (at 10)) (First 15)) }
+
+abbrev two_arrays : Ty
+two_arrays = Made (head.Record 0) (more ints (more ints none))
+
+-- def main = let a = [1] in loop {x = p, x = q} = {x = a, y = [1]} for i < 1 do (let d = q with [0] = 1 in {x = [1], y = [1]})
+abbrev field_twice : Case
+field_twice = record { types = ints_to 6 ++ two_arrays ∷ ints ∷ ints ∷ two_arrays ∷ ints_to 11 ++ two_arrays ∷ ints_to 4; program = define 0 (let_in (name 1) new_array (loop_of (Record_pattern (codes "x" ∷ codes "x" ∷ []) (all_patterns (name 2 ∷ name 3 ∷ []))) (strict (Record_of (codes "x" ∷ codes "y" ∷ [])) 0 (var 1 0 ∷ new_array ∷ [])) (Counted (b 4) (literal 1)) (let_in (name 5) (overwritten 30 (var 3 0)) (strict (Record_of (codes "x" ∷ codes "y" ∷ [])) 0 (new_array ∷ new_array ∷ []))))) ∷ []; answer = None }
+
+numbers_answered : map found (named_twice ∷ field_twice ∷ []) ≡ map answer (named_twice ∷ field_twice ∷ [])
+unfolding is_in with_alias union those spread all_spread written_stars tuple_stars record_stars has_star some_has_star lacks_star some_lacks_star adds_star some_adds_star consumes some_consumes consumes_more consumed_more some_consumes_more some_consumed_more gives_less given_less some_gives_less some_given_less either all_either of_type of_types with_stars all_with_stars at_type all_at_type components all_components with_sets all_with_sets named all_named starring all_starring functions all_functions ascribed all_ascribed part_named with_part_named lose_all lost pattern_stars patterns_stars fields_stars bound all_bound fields_bound kept all_kept fields_kept capture all_captured turns_captured some_name name_in turns_name own_names all_own_names fields_own_names starts all_starts fields_start misfit all_misfit fields_misfit looked all_looked turns_looked condition_looked value_looked first_broken place_from place part_at
+numbers_answered = refl

@@ -14,10 +14,10 @@ use Rattle.fut_typing.specs.Names.{Names}
 use Rattle.fut_aliases.specs.Aliases.{Set, Naming, is_in, union, those, shared, is_outside}
 use Rattle.fut_aliases.specs.Stars.{Stars, Arrow, Row, no_stars, star_at, spread, written_stars, primitive_stars, either}
 use Rattle.fut_aliases.specs.Values.{Value, Function, Parts, Values, value_and, no_value, of_type, with_stars, at_type, components, aliases, having, unite, Component, starring, part_named}
-use Rattle.fut_aliases.specs.Steps.{Losses, Step, give, and_then, losses_now, lose_too, apart, either_of, demand, or_else, some_alias}
+use Rattle.fut_aliases.specs.Steps.{Losses, Step, give, and_then, losses_now, lose_too, apart, either_of, demand, or_else, some_alias, lost}
 use Rattle.fut_aliases.specs.declared.refusals.Broken.TheVariants.{ResultAliases}
 use Rattle.fut_aliases.specs.declared.refusals.Broken.{Broken}
-use Rattle.fut_aliases.specs.declared.refusals.Named.TheVariants.{AFunction}
+use Rattle.fut_aliases.specs.declared.refusals.Named.TheVariants.{ByAlias, AFunction}
 use Rattle.fut_aliases.specs.declared.refusals.Spot.TheVariants.{First}
 use Rattle.fut_aliases.specs.Patterns.{Scope, with_value, pattern_stars, bound, kept}
 use Rattle.fut_aliases.specs.Capturing.{capture, captures, called, first_name}
@@ -146,6 +146,10 @@ module _ (naming : Naming) (N : Names) (K : Kinds) (types : Sub) where
   give_back h u a =
       and_then (demand h.asked (too_hungry u a)) (λ z.
       demand h.asked (or_else (some_alias (λ n. ResultAliases n (First a.node)) (shared_in_result h [] (starring u a.value))) (too_shared u a)))
+
+  -- what a function at a node shares with from outside was not consumed before
+  abbrev pub capture_fits : Here → ℕ → Set → Step (Unit {0})
+  capture_fits h n s = and_then losses_now (λ ls. demand h.asked (lost ls ByAlias (First n) s))
 
   -- ---- lets
 
@@ -297,7 +301,8 @@ module _ (naming : Naming) (N : Names) (K : Kinds) (types : Sub) where
         and_then (operation N K types h o lo mark parts) (λ v. whole (Strict o mark ts) lo v))
     looked (Lambda ps e) lo h w =
         and_then (apart (and_then (by_itself e (body_node ps lo) (in_body ps lo h) (looked e (body_node ps lo) (in_body ps lo h) (body_wanted ps e lo w))) (λ a. give_back (in_body ps lo h) (body_stars ps e lo w) a))) (λ z.
-        whole (Lambda ps e) lo (Function (captures (capture N h.scope e)) (function_stars ps (1 + lo) (body_stars ps e lo w))))
+        and_then (capture_fits h lo (captures (capture N h.scope e))) (λ y.
+        whole (Lambda ps e) lo (Function (captures (capture N h.scope e)) (function_stars ps (1 + lo) (body_stars ps e lo w)))))
     looked (Apply f e) lo h w =
         and_then (looked f (1 + lo) h None) (λ p.
         and_then (ready h f (1 + lo) p) (λ q.

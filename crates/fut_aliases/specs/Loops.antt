@@ -13,9 +13,10 @@ use Rattle.fut_types.specs.declared.Head.TheVariants as head
 use Rattle.fut_typing.specs.Names.{Names}
 use Rattle.fut_aliases.specs.Aliases.{Set, Naming, is_in, union, those, shared, is_outside}
 use Rattle.fut_aliases.specs.Values.{Value, Parts, Values, value_and, components, named, part_named, with_part_named}
-use Rattle.fut_aliases.specs.Steps.{Losses, Step, give, and_then, consume, demand, some_alias, is_lost}
+use Rattle.fut_aliases.specs.Steps.{Losses, Step, give, and_then, losses_now, consume, demand, some_alias, is_lost, lost}
 use Rattle.fut_aliases.specs.declared.refusals.Broken.TheVariants.{ResultAliases}
 use Rattle.fut_aliases.specs.declared.refusals.Broken.{Broken}
+use Rattle.fut_aliases.specs.declared.refusals.Named.TheVariants.{ByAlias}
 use Rattle.fut_aliases.specs.declared.refusals.Spot.TheVariants.{First}
 use Rattle.fut_aliases.specs.Calls.{Here, Held, not_consumable, captured, settled, first_broken}
 
@@ -40,7 +41,7 @@ module _ (naming : Naming) (N : Names) where
     pub own_names : FlatPattern → ℕ → Value → Value
     own_names (Bound_pattern b) q v = named naming true q b 0 v
     own_names (Tuple_pattern ps) q (Parts h vs) = Parts h (all_own_names ps (1 + q) vs)
-    own_names (Record_pattern fs ps) q v = fields_own_names fs ps (1 + q) v
+    own_names (Record_pattern fs ps) q v = fields_own_names fs ps (1 + q) v v
     own_names (Typed_pattern p e) q v = own_names p q v
     own_names p q v = v
 
@@ -48,9 +49,10 @@ module _ (naming : Naming) (N : Names) where
     all_own_names (pattern_and p ps) q (value_and v vs) = value_and (own_names p q v) (all_own_names ps (q + pattern_numbers p) vs)
     all_own_names ps q vs = vs
 
-    pub fields_own_names : List Text → Patterns Ref BindId → ℕ → Value → Value
-    fields_own_names (f ∷ fs) (pattern_and p ps) q v = fields_own_names fs ps (q + pattern_numbers p) (with_part_named N f (own_names p q (part_named N f v)) v)
-    fields_own_names fs ps q v = v
+    -- of the parts of v, in what was made so far
+    pub fields_own_names : List Text → Patterns Ref BindId → ℕ → Value → Value → Value
+    fields_own_names (f ∷ fs) (pattern_and p ps) q v made = fields_own_names fs ps (q + pattern_numbers p) v (with_part_named N f (own_names p q (part_named N f v)) made)
+    fields_own_names fs ps q v made = made
 
 -- ---- where the parts of a written tuple or record begin, by component
 
@@ -175,8 +177,14 @@ shared_results from kept before (c ∷ cs) (g ∷ gs) =
     union (cond c.is_eaten (union (those (λ a. is_outside from a || is_in a kept) g) (shared g (all_sets (before ++ gs)))) []) (shared_results from kept (before ++ g ∷ []) cs gs)
 shared_results from kept before cs gs = []
 
+-- and what it gives from outside was not consumed before the loop
+abbrev pub given_loss : Losses → ℕ → ℕ → Carried → Option Broken
+given_loss ls from body c = lost ls ByAlias (First body) (those (is_outside from) c.gives)
+
 abbrev pub leave : Here → ℕ → ℕ → List Carried → List Set → Step (Unit {0})
-leave h from body cs gs = demand h.asked (some_alias (λ n. ResultAliases n (First body)) (shared_results from (kept_names cs) [] cs gs))
+leave h from body cs gs =
+    and_then (demand h.asked (some_alias (λ n. ResultAliases n (First body)) (shared_results from (kept_names cs) [] cs gs))) (λ z.
+    and_then losses_now (λ ls. demand h.asked (first_broken (given_loss ls from body) cs)))
 
 -- the result: nothing where a parameter is consumed, else what it may have been in any turn
 abbrev pub results : List Carried → List Set → List Set → List Set

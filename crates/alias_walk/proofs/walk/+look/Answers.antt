@@ -404,10 +404,10 @@ asked_looked-returns-in_err-turn t c =
 pub asked_looked-returns-in_err-leave : goal.asked_looked-returns-in_err-leave
 asked_looked-returns-in_err-leave t c =
     let p = err_from_is_err_and c.from_residual-in_err-leave.result c.from_residual-in_err-leave.ensures.1 in
-    rw (p.1, p.2) (λ N k. leave_stops N c.args.site.now (turns_of c.args.whole.now.form) (term_of c.args.whole.now.body) c.args.turns c.args.at c.args.flow.now.body (carrieds_of c.args.flow.now.carried.now) (turn_here first_name_alone N (kinds_at c.args.site.now) (types_at c.args.site.now) (here_at c.args.site.now) (pattern_of c.args.whole.now.pat) c.args.at (going_of N (kinds_at c.args.site.now) (types_at c.args.site.now) (turns_of c.args.whole.now.form) c.args.turns c.args.going.now) (sets_of c.args.sets.now)) c.requires.begins c.in_ok-turn.turn (turn_there N c.args.site.now (turns_of c.args.whole.now.form) (term_of c.args.whole.now.body) c.args.turns (asked_is N c.args.site.now (pattern_of c.args.whole.now.pat) (turns_of c.args.whole.now.form) c.args.turns c.args.at c.args.going.now (sets_of c.args.sets.now) (c.in-Ok.ensures N k)) (c.in_ok-turn.ensures.step N k)) (c.in_err-leave.ensures (scope_of c.args.site.now.scope.now) _))
+    rw (p.1, p.2) (λ N k. leave_stops N c.args.site.now (turns_of c.args.whole.now.form) (term_of c.args.whole.now.body) c.args.turns c.args.at c.args.flow.now.body (carrieds_of c.args.flow.now.carried.now) (turn_here first_name_alone N (kinds_at c.args.site.now) (types_at c.args.site.now) (here_at c.args.site.now) (pattern_of c.args.whole.now.pat) c.args.at (going_of N (kinds_at c.args.site.now) (types_at c.args.site.now) (turns_of c.args.whole.now.form) c.args.turns c.args.going.now) (sets_of c.args.sets.now)) c.requires.begins c.in_ok-turn.turn (turn_there N c.args.site.now (turns_of c.args.whole.now.form) (term_of c.args.whole.now.body) c.args.turns (asked_is N c.args.site.now (pattern_of c.args.whole.now.pat) (turns_of c.args.whole.now.form) c.args.turns c.args.at c.args.going.now (sets_of c.args.sets.now) (c.in-Ok.ensures N k)) (c.in_ok-turn.ensures.step N k)) (c.in_err-leave.ensures (scope_of c.args.site.now.scope.now)))
 
 pub asked_looked-returns : goal.asked_looked-returns
-asked_looked-returns t c = λ N k. again_done N c.args.site.now (turns_of c.args.whole.now.form) (term_of c.args.whole.now.body) c.args.turns c.args.at c.args.flow.now.body (carrieds_of c.args.flow.now.carried.now) (turn_here first_name_alone N (kinds_at c.args.site.now) (types_at c.args.site.now) (here_at c.args.site.now) (pattern_of c.args.whole.now.pat) c.args.at (going_of N (kinds_at c.args.site.now) (types_at c.args.site.now) (turns_of c.args.whole.now.form) c.args.turns c.args.going.now) (sets_of c.args.sets.now)) c.requires.begins c.in_ok-turn.turn (turn_there N c.args.site.now (turns_of c.args.whole.now.form) (term_of c.args.whole.now.body) c.args.turns (asked_is N c.args.site.now (pattern_of c.args.whole.now.pat) (turns_of c.args.whole.now.form) c.args.turns c.args.at c.args.going.now (sets_of c.args.sets.now) (c.in-Ok.ensures N k)) (c.in_ok-turn.ensures.step N k)) (c.in_ok-leave.ensures (scope_of c.args.site.now.scope.now) _)
+asked_looked-returns t c = λ N k. again_done N c.args.site.now (turns_of c.args.whole.now.form) (term_of c.args.whole.now.body) c.args.turns c.args.at c.args.flow.now.body (carrieds_of c.args.flow.now.carried.now) (turn_here first_name_alone N (kinds_at c.args.site.now) (types_at c.args.site.now) (here_at c.args.site.now) (pattern_of c.args.whole.now.pat) c.args.at (going_of N (kinds_at c.args.site.now) (types_at c.args.site.now) (turns_of c.args.whole.now.form) c.args.turns c.args.going.now) (sets_of c.args.sets.now)) c.requires.begins c.in_ok-turn.turn (turn_there N c.args.site.now (turns_of c.args.whole.now.form) (term_of c.args.whole.now.body) c.args.turns (asked_is N c.args.site.now (pattern_of c.args.whole.now.pat) (turns_of c.args.whole.now.form) c.args.turns c.args.at c.args.going.now (sets_of c.args.sets.now) (c.in-Ok.ensures N k)) (c.in_ok-turn.ensures.step N k)) (c.in_ok-leave.ensures (scope_of c.args.site.now.scope.now))
 
 pub turn_looked-returns-in_err-passed-clause-step : goal.turn_looked-returns-in_err-passed-clause-step
 turn_looked-returns-in_err-passed-clause-step t c =
