@@ -25,6 +25,7 @@ use Rattle.alias_types.specs.Kinds.{kinds_of}
 use Rattle.typed_programs.specs.Known.{Is_known}
 use Rattle.typed_programs.specs.Mistyped.{Some_numbering}
 use Rattle.typed_programs.specs.declared.typed.Accepted.{Accepted}
+use Rattle.alias_laws.proofs.Law.{kept_names_answer_the_same}
 use Rattle.unique_programs.specs.Rules.{First_broken, any_kinds}
 use Rattle.unique_programs.specs.Misuses.{Is_broken, Misused, Tells, Told}
 use Rattle.unique_programs.specs.Shown.{Shows}
@@ -66,7 +67,7 @@ module _ (accepted : Accepted) (known : Is_known accepted) (program : Program) w
     first_is N num = record {
       types = sub_of program.types.now;
       typing = is.typing N num;
-      is = ap (λ K. first_broken first_name_alone N K (sub_of program.types.now) (program_of accepted.flat)) (sym is.kinds) ∙ first N (is.names N num);
+      is = sym (kept_names_answer_the_same N any_kinds (sub_of program.types.now) (program_of accepted.flat)) ∙ ap (λ K. first_broken first_name_alone N K (sub_of program.types.now) (program_of accepted.flat)) (sym is.kinds) ∙ first N (is.names N num);
     }
 
     pub told_by : Told_by (First_broken (program_of accepted.flat) answer) accepted.inference

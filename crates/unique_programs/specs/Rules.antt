@@ -5,8 +5,7 @@ use Rattle.fut_types.specs.Types.{Sub, Kinds}
 use Rattle.fut_typing.specs.Names.{Names}
 use Rattle.fut_typing.specs.Program.{Defined}
 use Rattle.fut_typing.specs.Answers.{Typing_is}
-use Rattle.fut_aliases.specs.Aliases.{first_name_alone}
-use Rattle.fut_aliases.specs.Programs.{first_broken}
+use Rattle.fut_aliases.specs.Programs.{first_broken_rule}
 use Rattle.fut_aliases.specs.declared.refusals.Broken.{Broken}
 
 -- What a typing leaves undetermined is of a kind that has arrays (`Variables.antt`): a type variable may stand for an array.
@@ -17,7 +16,7 @@ any_kinds v = kind.Any
 pub record First_broken (ds : List Defined) (answer : Option Broken) (N : Names) : Type 0 where
   pub types : Sub
   pub typing : Typing_is N ds types
-  pub is : first_broken first_name_alone N any_kinds types ds ≡ answer
+  pub is : first_broken_rule N any_kinds types ds ≡ answer
 
 -- it has a typing, and breaks none
 abbrev pub Breaks_none : List Defined → Names → Type 0

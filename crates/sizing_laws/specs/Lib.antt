@@ -1,0 +1,4 @@
+pub mod Renumbering
+pub mod Order
+pub mod Example
+pub mod Claims
