@@ -19,6 +19,7 @@ use Rattle.sized_programs.specs.declared.checking.Sizing.{Sizing}
 use Rattle.sized_programs.specs.declared.misfit.Misfit.TheVariants as misfit
 use Rattle.typed_programs.specs.Known.{Knows}
 use Rattle.typed_programs.specs.Mistyped.{Some_numbering}
+use Rattle.typed_programs.specs.Ordered.{Some_order}
 use Rattle.typed_programs.specs.declared.typed.Accepted.{Accepted}
 use Rattle.typed_programs.specs.declared.typed.TypeErr.TheVariants as types
 use Rattle.typed_programs.proofs.Numbered.{numbered}
@@ -46,8 +47,8 @@ typable ds i infers = let has = numbered (Has_typing ds i) i infers.typing in (h
 
 -- ---- sizes
 
-sizable : (ds : List Defined) (sizing : Sizing) → Some_numbering (Has_sizing ds sizing) → Some_numbering (λ N. Sizable N ds)
-sizable ds sizing h = (h.0, h.1, (h.2.sizes, h.2.sized))
+sizable : (ds : List Defined) (sizing : Sizing) → Some_order (Has_sizing ds sizing) → Some_order (λ N. Sizable N ds)
+sizable ds sizing h = (h.0, h.1, h.2, (h.3.sizes, h.3.sized))
 
 -- ---- names
 
@@ -72,14 +73,14 @@ module _ (tokens : List Token) (program : Program) (spelled : IsBuiltProgram tok
   here : (flat : Flat) (a : Accepted) → Resolves program (Ok (flat_of flat)) → Knows flat a → IsResolved tokens (Ok (flat_of a.flat))
   here flat a resolves knows = named (Ok (flat_of a.flat)) (subst (λ f. Resolves program (Ok (flat_of f))) (sym knows.is) resolves)
 
-  pub accepted : (flat : Flat) (a : Accepted) (sizing : Sizing) → Resolves program (Ok (flat_of flat)) → Knows flat a → Told_by (Has_sizing (typing_of a.flat) sizing) a.inference → Some_numbering (Has_sizing (typing_of a.flat) sizing)
-      → Some_numbering (Breaks_none (typing_of a.flat)) → Is_accepted tokens a sizing
+  pub accepted : (flat : Flat) (a : Accepted) (sizing : Sizing) → Resolves program (Ok (flat_of flat)) → Knows flat a → Told_by (Has_sizing (typing_of a.flat) sizing) a.inference → Some_order (Has_sizing (typing_of a.flat) sizing)
+      → Some_order (Breaks_none (typing_of a.flat)) → Is_accepted tokens a sizing
   accepted flat a sizing resolves knows told sized unbroken = record {
     acceptable = record {
       resolved = here flat a resolves knows;
       typed = subst (λ ds. Some_numbering (λ N. Typable N ds)) (sym (same_definitions a.flat)) (typable (typing_of a.flat) a.inference knows.known.infers);
-      sized = subst (λ ds. Some_numbering (λ N. Sizable N ds)) (sym (same_definitions a.flat)) (sizable (typing_of a.flat) sizing sized);
-      unbroken = subst (λ ds. Some_numbering (Breaks_none ds)) (sym (same_definitions a.flat)) unbroken;
+      sized = subst (λ ds. Some_order (λ N. Sizable N ds)) (sym (same_definitions a.flat)) (sizable (typing_of a.flat) sizing sized);
+      unbroken = subst (λ ds. Some_order (Breaks_none ds)) (sym (same_definitions a.flat)) unbroken;
     };
     known = knows.known;
     sized = told;
@@ -131,7 +132,7 @@ module _ (tokens : List Token) (program : Program) (spelled : IsBuiltProgram tok
   unsized flat a why.Memory resolves knows m = tt
 
   -- a rule of aliases and consumption is broken
-  pub misused : (flat : Flat) (a : Accepted) (sizing : Sizing) (refused : Refused) → Resolves program (Ok (flat_of flat)) → Knows flat a → Some_numbering (Has_sizing (typing_of a.flat) sizing) → Overwrites a.flat refused → Explains tokens refused
+  pub misused : (flat : Flat) (a : Accepted) (sizing : Sizing) (refused : Refused) → Resolves program (Ok (flat_of flat)) → Knows flat a → Some_order (Has_sizing (typing_of a.flat) sizing) → Overwrites a.flat refused → Explains tokens refused
   misused flat a sizing (why.Parse err) resolves knows sized m = absurd m
   misused flat a sizing (why.NotBuilt at) resolves knows sized m = absurd m
   misused flat a sizing (why.Names err) resolves knows sized m = absurd m
@@ -147,8 +148,8 @@ module _ (tokens : List Token) (program : Program) (spelled : IsBuiltProgram tok
 -- ---- as the stages answer
 
 module _ (tokens : List Token) (program : Program) (parsed : IsParsed tokens program) (built : first_unbuilt tokens ≡ None) where
-  pub accepts : (flat : Flat) (a : Accepted) (sizing : Sizing) → Resolves program (Ok (flat_of flat)) → Knows flat a → Told_by (Has_sizing (typing_of a.flat) sizing) a.inference → Some_numbering (Has_sizing (typing_of a.flat) sizing)
-      → Some_numbering (Breaks_none (typing_of a.flat)) → Is_accepted tokens a sizing
+  pub accepts : (flat : Flat) (a : Accepted) (sizing : Sizing) → Resolves program (Ok (flat_of flat)) → Knows flat a → Told_by (Has_sizing (typing_of a.flat) sizing) a.inference → Some_order (Has_sizing (typing_of a.flat) sizing)
+      → Some_order (Breaks_none (typing_of a.flat)) → Is_accepted tokens a sizing
   accepts = accepted tokens program (record { parsed = parsed; built = built })
 
   pub misnames : (refused : Refused) → IsMisnamed program refused → Explains tokens refused
@@ -160,7 +161,7 @@ module _ (tokens : List Token) (program : Program) (parsed : IsParsed tokens pro
   pub misfits : (flat : Flat) (a : Accepted) (refused : Refused) → Resolves program (Ok (flat_of flat)) → Knows flat a → Unsized a.flat refused → Explains tokens refused
   misfits = unsized tokens program (record { parsed = parsed; built = built })
 
-  pub misuses : (flat : Flat) (a : Accepted) (sizing : Sizing) (refused : Refused) → Resolves program (Ok (flat_of flat)) → Knows flat a → Some_numbering (Has_sizing (typing_of a.flat) sizing) → Overwrites a.flat refused → Explains tokens refused
+  pub misuses : (flat : Flat) (a : Accepted) (sizing : Sizing) (refused : Refused) → Resolves program (Ok (flat_of flat)) → Knows flat a → Some_order (Has_sizing (typing_of a.flat) sizing) → Overwrites a.flat refused → Explains tokens refused
   misuses = misused tokens program (record { parsed = parsed; built = built })
 
 pub ruleset joining = (accepts, misnames, mistypes, misfits, misuses)

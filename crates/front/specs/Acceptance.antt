@@ -25,6 +25,7 @@ use Rattle.module_elab.specs.Elaborated.{program_of as flat_of}
 use Rattle.module_elab.specs.declared.prelude.TheConstants.{PRELUDE}
 use Rattle.unbuilt_tokens.specs.Unbuilt.{first_unbuilt}
 use Rattle.typed_programs.specs.Mistyped.{Some_numbering}
+use Rattle.typed_programs.specs.Ordered.{Some_order}
 use Rattle.sized_types.specs.Sizes.{Size}
 use Rattle.sized_programs.specs.Sizings.{Is_sized}
 use Rattle.sized_programs.specs.Misfits.{Misfits}
@@ -123,12 +124,12 @@ pub record IsResolved (tokens : List Token) (answer : Result FlatProgram Refusal
   pub resolves : Resolves program answer
 
 -- The tokens are accepted: behind the prelude they are this flat program, and names and records can be numbered so that it
--- has a typing, by which it has a sizing and breaks no rule of aliases and consumption.
+-- has a typing, and in the order of names so that by one it has a sizing and by one it breaks no rule of aliases and consumption.
 pub record IsAcceptable (tokens : List Token) (flat : FlatProgram) : Type 0 where
   pub resolved : IsResolved tokens (Ok flat)
   pub typed : Some_numbering (λ N. Typable N (definitions_of flat))
-  pub sized : Some_numbering (λ N. Sizable N (definitions_of flat))
-  pub unbroken : Some_numbering (Breaks_none (definitions_of flat))
+  pub sized : Some_order (λ N. Sizable N (definitions_of flat))
+  pub unbroken : Some_order (Breaks_none (definitions_of flat))
 
 -- ---- what is not accepted, and why
 
@@ -156,7 +157,7 @@ pub record IsMisfit (tokens : List Token) (refusal : Misfit) : Type 0 where
 pub record IsMisused (tokens : List Token) (refusal : Misuse) : Type 0 where
   pub flat : Flat
   pub resolved : IsResolved tokens (Ok (flat_of flat))
-  pub sized : Some_numbering (λ N. Sizable N (typing_of flat))
+  pub sized : Some_order (λ N. Sizable N (typing_of flat))
   pub breaks : Misused (typing_of flat) (texts flat.names.now) (program_places flat.definitions.now) refusal
 
 -- why the tokens are not accepted. Want of memory says nothing of them.

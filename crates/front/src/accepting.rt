@@ -9,7 +9,7 @@ ghost use Rattle.front.specs.Acceptance.{IsParsed, IsPreludeText, Resolves};
 ghost use Rattle.sized_programs.specs.Sizings.{Has_sizing};
 ghost use Rattle.type_infer.specs.Inferring.{Told_by};
 ghost use Rattle.typed_programs.specs.Known.{Is_known, Knows};
-ghost use Rattle.typed_programs.specs.Mistyped.{Some_numbering};
+ghost use Rattle.typed_programs.specs.Ordered.{Some_order};
 ghost use Rattle.unique_programs.specs.Rules.{Breaks_none};
 ghost use Rattle.front.specs.Stages.{Explains, Is_accepted, IsMisnamed, Misnames, Misspells, Overwrites, Unsized, Untyped};
 
@@ -159,7 +159,7 @@ fn sized<'a>(
 ) -> Result<&'a Sizing<'a>, Refused>
     requires known { Is_known accepted.now }
     ensures ok { IfOk result (λ sizing. Told_by (Has_sizing (typing_of accepted.now.flat) sizing.now) accepted.now.inference) }
-    ensures numbered { IfOk result (λ sizing. Some_numbering (Has_sizing (typing_of accepted.now.flat) sizing.now)) }
+    ensures numbered { IfOk result (λ sizing. Some_order (Has_sizing (typing_of accepted.now.flat) sizing.now)) }
     ensures err { IfErr result (Unsized accepted.now.flat) }
 {
     match sized_program(alloc, bump, &accepted.flat, &accepted.inference) {
@@ -175,7 +175,7 @@ fn sized<'a>(
 /// Whether a typed program breaks no rule of aliases and consumption.
 fn unbroken<'a>(alloc: Global, bump: &'a Bump, accepted: &'a Accepted<'a>) -> Result<(), Refused>
     requires known { Is_known accepted.now }
-    ensures ok { OnOk result (Some_numbering (Breaks_none (typing_of accepted.now.flat))) }
+    ensures ok { OnOk result (Some_order (Breaks_none (typing_of accepted.now.flat))) }
     ensures err { IfErr result (Overwrites accepted.now.flat) }
 {
     match unique_program(alloc, bump, accepted) {

@@ -281,7 +281,7 @@ module _ (words : List (List ℕ)) (old new : Outside) (quiet : NoFault old new)
             misfitting err (from_names (Ok m.flat) m.resolved (EndsAs (SizesRefusal asked.file))
             (then_ok (Named asked.file m.resolved.program) _ (EndsAs (SizesRefusal asked.file)) m.flat (named_ok asked.file m.resolved.program m.flat m.resolved.resolves)
             (then_ok (Typed asked.file m.flat) _ (EndsAs (SizesRefusal asked.file)) m.flat (typed_ok asked.file m.flat (misfit_typable m.flat m.N m.are m.refusal m.first))
-            (then_ends (Sized asked.file m.flat) _ (SizesRefusal asked.file) (sized_err asked.file m.flat m.N m.are m.refusal m.first)))))
+            (then_ends (Sized asked.file m.flat) _ (SizesRefusal asked.file) (sized_err asked.file m.flat m.N m.are m.order m.refusal m.first)))))
 
         unique_so : (err : Misuse) → Unaccepted tokens (refused.Misused err) → Ends (status_for (why.Unique err) asked.file)
         unique_so err u =
@@ -290,7 +290,7 @@ module _ (words : List (List ℕ)) (old new : Outside) (quiet : NoFault old new)
             (then_ok (Named asked.file b.resolved.program) _ (EndsAs (UniqueRefusal asked.file)) b.flat (named_ok asked.file b.resolved.program b.flat b.resolved.resolves)
             (then_ok (Typed asked.file b.flat) _ (EndsAs (UniqueRefusal asked.file)) b.flat (typed_ok asked.file b.flat (typable b.flat b.N b.are b.rule b.first))
             (then_ok (Sized asked.file b.flat) _ (EndsAs (UniqueRefusal asked.file)) b.flat (sized_ok asked.file b.flat b.sized)
-            (unbroken_err asked.file b.flat b.N b.are b.rule b.first)))))
+            (unbroken_err asked.file b.flat b.N b.are b.order b.rule b.first)))))
 
         explained : (reason : Why) → UnacceptedTokens tokens reason → Ends (status_for reason asked.file)
         explained (why.Parse err) u = parsed err u

@@ -11,6 +11,8 @@ use Rattle.fut_typing.specs.Program.{program_of as typing_of}
 use Rattle.elab_scopes.specs.Programs.{FlatProgram}
 use Rattle.module_elab.specs.Elaborated.{program_of as flat_of}
 use Rattle.typed_programs.specs.Mistyped.{Some_numbering}
+use Rattle.typed_programs.specs.Ordered.{Some_order}
+use Rattle.sizing_laws.specs.Order.{In_order}
 use Rattle.sized_programs.specs.Sizings.{Is_sized}
 use Rattle.sized_programs.specs.Misfits.{Is_refused}
 use Rattle.sized_programs.specs.declared.misfit.Misfit.{Misfit}
@@ -24,6 +26,7 @@ pub record Misfits (tokens : List Token) : Type 0 where
   pub resolved : IsResolved tokens (Ok flat)
   pub N : Numbering
   pub are : AreNames N
+  pub order : In_order N
   pub refusal : Refusal
   pub first : Is_sized (definitions_of flat) (Err refusal) N
 
@@ -31,14 +34,15 @@ pub typable : (flat : FlatProgram) (N : Numbering) → AreNames N → (refusal :
 typable flat N are refusal first = (N, are, (first.types, first.typing))
 
 module _ (tokens : List Token) where
-  by : (flat : Flat) → IsResolved tokens (Ok (flat_of flat)) → (names : List Text) (places : List Place) (err : Misfit) → Some_numbering (Is_refused (typing_of flat) names places err) → Misfits tokens
+  by : (flat : Flat) → IsResolved tokens (Ok (flat_of flat)) → (names : List Text) (places : List Place) (err : Misfit) → Some_order (Is_refused (typing_of flat) names places err) → Misfits tokens
   by flat resolved names places err some = record {
     flat = flat_of flat;
     resolved = resolved;
     N = some.0;
     are = some.1;
-    refusal = some.2.refusal;
-    first = subst (λ ds. Is_sized ds (Err some.2.refusal) some.0) (sym (same_definitions flat)) some.2.first;
+    order = some.2;
+    refusal = some.3.refusal;
+    first = subst (λ ds. Is_sized ds (Err some.3.refusal) some.0) (sym (same_definitions flat)) some.3.first;
   }
 
   pub misfits : (err : Misfit) → Unaccepted tokens (refused.Misfit err) → Misfits tokens

@@ -11,6 +11,8 @@ use Rattle.fut_typing.specs.Program.{program_of as typing_of}
 use Rattle.elab_scopes.specs.Programs.{FlatProgram}
 use Rattle.module_elab.specs.Elaborated.{program_of as flat_of}
 use Rattle.typed_programs.specs.Mistyped.{Some_numbering}
+use Rattle.typed_programs.specs.Ordered.{Some_order}
+use Rattle.sizing_laws.specs.Order.{In_order}
 use Rattle.unique_programs.specs.Rules.{First_broken}
 use Rattle.unique_programs.specs.Misuses.{Is_broken}
 use Rattle.unique_programs.specs.declared.misuse.Misuse.{Misuse}
@@ -24,7 +26,8 @@ pub record Breaks (tokens : List Token) : Type 0 where
   pub resolved : IsResolved tokens (Ok flat)
   pub N : Numbering
   pub are : AreNames N
-  pub sized : Some_numbering (λ N. Sizable N (definitions_of flat))
+  pub order : In_order N
+  pub sized : Some_order (λ N. Sizable N (definitions_of flat))
   pub rule : Broken
   pub first : First_broken (definitions_of flat) (Some rule) N
 
@@ -32,15 +35,16 @@ pub typable : (flat : FlatProgram) (N : Numbering) → AreNames N → (rule : Br
 typable flat N are rule first = (N, are, (first.types, first.typing))
 
 module _ (tokens : List Token) where
-  by : (flat : Flat) → IsResolved tokens (Ok (flat_of flat)) → Some_numbering (λ N. Sizable N (typing_of flat)) → (names : List Text) (places : List Place) (err : Misuse) → Some_numbering (Is_broken (typing_of flat) names places err) → Breaks tokens
+  by : (flat : Flat) → IsResolved tokens (Ok (flat_of flat)) → Some_order (λ N. Sizable N (typing_of flat)) → (names : List Text) (places : List Place) (err : Misuse) → Some_order (Is_broken (typing_of flat) names places err) → Breaks tokens
   by flat resolved sized names places err some = record {
     flat = flat_of flat;
     resolved = resolved;
     N = some.0;
     are = some.1;
-    sized = subst (λ ds. Some_numbering (λ N. Sizable N ds)) (sym (same_definitions flat)) sized;
-    rule = some.2.rule;
-    first = subst (λ ds. First_broken ds (Some some.2.rule) some.0) (sym (same_definitions flat)) some.2.first;
+    order = some.2;
+    sized = subst (λ ds. Some_order (λ N. Sizable N ds)) (sym (same_definitions flat)) sized;
+    rule = some.3.rule;
+    first = subst (λ ds. First_broken ds (Some some.3.rule) some.0) (sym (same_definitions flat)) some.3.first;
   }
 
   pub breaks : (err : Misuse) → Unaccepted tokens (refused.Misused err) → Breaks tokens

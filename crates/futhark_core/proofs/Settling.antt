@@ -26,6 +26,8 @@ use Rattle.sized_programs.specs.Sizings.{Is_sized}
 use Rattle.sized_programs.specs.declared.misfit.Misfit.{Misfit}
 use Rattle.unique_programs.specs.declared.misuse.Misuse.{Misuse}
 use Rattle.typed_programs.specs.Mistyped.{Some_numbering}
+use Rattle.typed_programs.specs.Ordered.{Some_order}
+use Rattle.sizing_laws.specs.Order.{In_order}
 use Rattle.typed_programs.specs.declared.typed.TypeErr.{TypeErr}
 use Rattle.typed_programs.specs.declared.typed.TypeErr.TheVariants as types
 use Rattle.front.specs.Acceptance.{IsParsed, Resolves, Sizable, Typable, definitions_of, named_file}
@@ -210,13 +212,13 @@ abbrev pub SizesRefusal : List ℕ → Status → Type 0
 SizesRefusal file status = (err : Misfit) × (status ≡ status_for (why.Sizes err) file)
 
 module _ (file : List ℕ) (flat : FlatProgram) where
-  pub sized_ok : Some_numbering (λ N. Sizable N (definitions_of flat)) → Settles (Sized file flat) (Ok flat)
+  pub sized_ok : Some_order (λ N. Sizable N (definitions_of flat)) → Settles (Sized file flat) (Ok flat)
   sized_ok some (Ok same) p = ap Ok p.1
-  sized_ok some (Err status) p = let refused = p.1 some.0 some.1 (Ok some.2.0) some.2.1 in let is = refused.1 in absurd cc
+  sized_ok some (Err status) p = let refused = p.1 some.0 some.1 some.2 (Ok some.3.0) some.3.1 in let is = refused.1 in absurd cc
 
-  pub sized_err : (N : Numbering) → AreNames N → (refusal : Size_refusal) → Is_sized (definitions_of flat) (Err refusal) N → Holds (Sized file flat) (EndsAs (SizesRefusal file))
-  sized_err N are refusal first (Ok same) p = let has = p.0 N are (Err refusal) first in let is = has.1 in absurd cc
-  sized_err N are refusal first (Err status) p = (p.0, p.2)
+  pub sized_err : (N : Numbering) → AreNames N → In_order N → (refusal : Size_refusal) → Is_sized (definitions_of flat) (Err refusal) N → Holds (Sized file flat) (EndsAs (SizesRefusal file))
+  sized_err N are order refusal first (Ok same) p = let has = p.0 N are order (Err refusal) first in let is = has.1 in absurd cc
+  sized_err N are order refusal first (Err status) p = (p.0, p.2)
 
 -- ---- rules of aliases and consumption
 
@@ -225,10 +227,10 @@ abbrev pub UniqueRefusal : List ℕ → Status → Type 0
 UniqueRefusal file status = (err : Misuse) × (status ≡ status_for (why.Unique err) file)
 
 module _ (file : List ℕ) (flat : FlatProgram) where
-  pub unbroken_ok : Some_numbering (Breaks_none (definitions_of flat)) → Settles (Unbroken file flat) (Ok flat)
+  pub unbroken_ok : Some_order (Breaks_none (definitions_of flat)) → Settles (Unbroken file flat) (Ok flat)
   unbroken_ok some (Ok same) p = ap Ok p.1
-  unbroken_ok some (Err status) p = let broken = p.1 some.0 some.1 None some.2 in let is = broken.1 in absurd cc
+  unbroken_ok some (Err status) p = let broken = p.1 some.0 some.1 some.2 None some.3 in let is = broken.1 in absurd cc
 
-  pub unbroken_err : (N : Numbering) → AreNames N → (rule : Broken) → First_broken (definitions_of flat) (Some rule) N → Holds (Unbroken file flat) (EndsAs (UniqueRefusal file))
-  unbroken_err N are rule first (Ok same) p = let none = p.0 N are (Some rule) first in absurd cc
-  unbroken_err N are rule first (Err status) p = (p.0, p.2)
+  pub unbroken_err : (N : Numbering) → AreNames N → In_order N → (rule : Broken) → First_broken (definitions_of flat) (Some rule) N → Holds (Unbroken file flat) (EndsAs (UniqueRefusal file))
+  unbroken_err N are order rule first (Ok same) p = let none = p.0 N are order (Some rule) first in absurd cc
+  unbroken_err N are order rule first (Err status) p = (p.0, p.2)

@@ -28,6 +28,7 @@ use Rattle.front.specs.Entries.{HasEntry, HasNoEntry}
 use Rattle.front.specs.declared.refusals.NameErr.{NameErr}
 use Rattle.front.specs.declared.refusals.NameErr.TheVariants as names
 use Rattle.typed_programs.specs.Mistyped.{Some_numbering}
+use Rattle.sizing_laws.specs.Order.{In_order}
 use Rattle.typed_programs.specs.declared.typed.TypeErr.{TypeErr}
 use Rattle.typed_programs.specs.declared.typed.TypeErr.TheVariants as types
 use Rattle.sized_types.specs.Sizes.{Size}
@@ -120,18 +121,19 @@ abbrev pub Typed : Name → FlatProgram → Stage FlatProgram
 Typed file flat (Ok same) = Some_numbering (λ N. Typable N (definitions_of flat)) × (same ≡ flat)
 Typed file flat (Err status) = (err : TypeErr) × Some_numbering (λ N. Lacks err N (definitions_of flat)) × (status ≡ status_for (why.Types err) file)
 
--- this holds of the sizing of the definitions, or of its first refusal, by each typing of theirs
+-- this holds of the sizing of the definitions, or of its first refusal, by each typing of theirs in the order of names
 abbrev pub By_each_sizing : List Defined → (Sizing_answer (ℕ → Size) → Type 0) → Type 0
-By_each_sizing ds P = (N : Numbering) → AreNames N → (answer : Sizing_answer (ℕ → Size)) → Is_sized ds answer N → P answer
+By_each_sizing ds P = (N : Numbering) → AreNames N → In_order N → (answer : Sizing_answer (ℕ → Size)) → Is_sized ds answer N → P answer
 
 -- by each typing the flat program has a sizing, or by none
 abbrev pub Sized : Name → FlatProgram → Stage FlatProgram
 Sized file flat (Ok same) = By_each_sizing (definitions_of flat) (λ answer. (sizes : ℕ → Size) × (answer ≡ Ok sizes)) × (same ≡ flat)
 Sized file flat (Err status) = (err : Misfit) × By_each_sizing (definitions_of flat) (λ answer. (refusal : Size_refusal) × (answer ≡ Err refusal)) × (status ≡ status_for (why.Sizes err) file)
 
--- this holds of the first rule of aliases and consumption that the definitions break, if they break one, by each typing of theirs
+-- this holds of the first rule of aliases and consumption that the definitions break, if they break one, by each typing of theirs in
+-- the order of names
 abbrev pub By_each_typing : List Defined → (Option Broken → Type 0) → Type 0
-By_each_typing ds P = (N : Numbering) → AreNames N → (first : Option Broken) → First_broken ds first N → P first
+By_each_typing ds P = (N : Numbering) → AreNames N → In_order N → (first : Option Broken) → First_broken ds first N → P first
 
 -- by no typing the flat program breaks a rule of aliases and consumption, or by each one
 abbrev pub Unbroken : Name → FlatProgram → Stage FlatProgram

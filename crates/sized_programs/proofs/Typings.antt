@@ -24,7 +24,8 @@ use Rattle.size_program.specs.Program.{sub_of}
 use Rattle.size_program.specs.Tables.{node_at}
 use Rattle.size_program.specs.declared.program.Program.{Program}
 use Rattle.size_program.specs.declared.tables.Tables.{Tables}
-use Rattle.typed_programs.specs.Mistyped.{Some_numbering}
+use Rattle.typed_programs.specs.Ordered.{Is_ordered, Some_order}
+use Rattle.typed_programs.proofs.Ordering.{in_some_order}
 use Rattle.unique_programs.proofs.Typings.{shown_names, shown_typing}
 use Rattle.sized_programs.specs.Sizings.{Has_sizing, Is_sized}
 use Rattle.sized_programs.specs.Misfits.{Is_refused, Misfits, Tells, Told}
@@ -62,12 +63,12 @@ refused_by {A = A} {B = B} R a k first e is = by_first first is
     by_first no_memory is = elim (no is) [ ]
 
 module _ (ds : List Defined) (inference : Inference) (infers : Infers ds inference) where
-  -- what holds of each numbering holds of one
+  -- what holds of each numbering holds of one, and of one in order
   pub told_by : (P : Names → Type 0) → ((N : Names) → Numbers inference N → P N) → Told_by P inference
   told_by P h = record { labels = infers.typing.labels; some = infers.typing.some; holds = h }
 
-  pub some_numbering : (P : Names → Type 0) → ((N : Names) → Numbers inference N → P N) → Some_numbering P
-  some_numbering P h = let w = infers.typing.some in (w.0, w.1.names, h w.0 w.1)
+  pub in_order : (P : Names → Type 0) → Is_ordered inference → ((N : Names) → Numbers inference N → P N) → Some_order P
+  in_order P ordered h = in_some_order P inference (told_by P h) ordered
 
   module _ (program : Program) where
     pub prepares : IsTable program.names.table.now → program.names.numbers.now ≡ inference.labels.numbers → program.names.table.now ≡ inference.table
@@ -92,9 +93,9 @@ module _ (ds : List Defined) (inference : Inference) (infers : Infers ds inferen
           }
 
       -- a refusal
-      module _ (e : Refusal) (refused : k ≡ Err (size_err.Refused e)) (names : List Text) (places : List Place) where
-        refused_as : (m : Misfit) → Tells names places (refusal_of e) m → Some_numbering (Is_refused ds names places m)
-        refused_as m told = some_numbering (Is_refused ds names places m) (λ N num. record {
+      module _ (e : Refusal) (ordered : Is_ordered inference) (refused : k ≡ Err (size_err.Refused e)) (names : List Text) (places : List Place) where
+        refused_as : (m : Misfit) → Tells names places (refusal_of e) m → Some_order (Is_refused ds names places m)
+        refused_as m told = in_order (Is_refused ds names places m) ordered (λ N num. record {
           refusal = refusal_of e;
           first = is_sized (Err (refusal_of e)) N num (refused_by Holds_nodes (sizing N (sub_of program.types.now) ds) k (first N (is.names N num)) e refused);
           told = told;

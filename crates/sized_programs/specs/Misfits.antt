@@ -6,7 +6,7 @@ use Rattle.fut_typing.specs.Names.{Names}
 use Rattle.fut_typing.specs.Program.{Defined}
 use Rattle.sized_types.specs.Sizes.{Const, Name, Own, Unknown, Slot, Dim, At, Bound}
 use Rattle.fut_sizes.specs.Agreeing.{Refusal, Mismatch, Escapes, Irregular}
-use Rattle.typed_programs.specs.Mistyped.{Some_numbering}
+use Rattle.typed_programs.specs.Ordered.{Some_order}
 use Rattle.sized_programs.specs.Sizings.{Is_sized}
 use Rattle.sized_programs.specs.declared.misfit.Misfit.{Misfit}
 use Rattle.sized_programs.specs.declared.misfit.Misfit.TheVariants as misfit
@@ -55,8 +55,8 @@ pub record Is_refused (ds : List Defined) (names : List Text) (places : List Pla
   pub first : Is_sized ds (Err refusal) N
   pub told : Tells names places refusal m
 
--- Why a program of these definitions, whose names have these texts and whose nodes stand at these places, has no sizing. Want of
--- memory says nothing of the program.
+-- Why a program of these definitions, whose names have these texts and whose nodes stand at these places, has no sizing. The
+-- parts of a record are matched in the order of its names. Want of memory says nothing of the program.
 abbrev pub Misfits : List Defined → List Text → List Place → Misfit → Type 0
 Misfits ds names places misfit.Memory = Unit {0}
-Misfits ds names places m = Some_numbering (Is_refused ds names places m)
+Misfits ds names places m = Some_order (Is_refused ds names places m)

@@ -4,7 +4,7 @@ ghost use Rattle.fut_flat.specs.Erased.{texts};
 ghost use Rattle.fut_typing.specs.Program.{program_of};
 ghost use Rattle.flat_numbers.specs.Places.{program_places};
 ghost use Rattle.type_infer.specs.Inferring.{Infers, Told_by};
-ghost use Rattle.typed_programs.specs.Mistyped.{Some_numbering};
+ghost use Rattle.typed_programs.specs.Ordered.{Is_ordered, Some_order};
 ghost use Rattle.size_arena.specs.Trees.{size_of};
 ghost use Rattle.size_program.specs.Tables.{node_at};
 ghost use Rattle.sized_programs.specs.Sizings.{Has_sizing};
@@ -112,9 +112,10 @@ pub fn sized_program<'a>(
     flat: &'a Flat<'a>,
     inference: &'a Inference<'a>,
 ) -> Result<Sizing<'a>, Misfit>
-    requires { Infers (program_of flat.now) inference.now }
+    requires infers { Infers (program_of flat.now) inference.now }
+    requires ordered { Is_ordered inference.now }
     ensures ok { IfOk result (λ sizing. Told_by (Has_sizing (program_of flat.now) sizing) inference.now) }
-    ensures numbered { IfOk result (λ sizing. Some_numbering (Has_sizing (program_of flat.now) sizing)) }
+    ensures numbered { IfOk result (λ sizing. Some_order (Has_sizing (program_of flat.now) sizing)) }
     ensures err { IfErr result (Misfits (program_of flat.now) (texts flat.now.names.now) (program_places flat.now.definitions.now)) }
 {
     let program = match prepared(alloc, bump, flat, inference) {

@@ -7,3 +7,4 @@ pub mod FormLaws
 pub mod Names
 pub mod Digits
 pub mod Numbered
+pub mod Ordering

@@ -5,4 +5,5 @@ pub mod Entries
 pub mod Built
 pub mod Trees
 pub mod Mistyped
+pub mod Ordered
 pub mod Known

@@ -19,6 +19,7 @@ mod entries;
 mod forms;
 mod integers;
 mod operations;
+mod ordered;
 mod positions;
 mod typed;
 

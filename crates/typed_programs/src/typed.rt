@@ -6,12 +6,13 @@ ghost use Rattle.type_scopes.specs.declared.Inference.{Inference as TheInference
 ghost use Rattle.typed_programs.specs.Known.{Knows};
 ghost use Rattle.typed_programs.specs.Mistyped.{Mistyped};
 
+use crate::ordered::inferred_in_order;
 use crate::{integer_types, is_built};
 use flat_numbers::places;
 use fut_flat::Flat;
 use fut_scalar::{IntType, List, Place};
 use std::alloc::Global;
-use type_infer::{InferErr, infer, new_inference};
+use type_infer::InferErr;
 use type_scopes::Inference;
 
 /// A program that has a typing.
@@ -34,7 +35,8 @@ pub enum TypeErr {
     /// It has many, and what the principal one leaves undetermined has no default.
     Ambiguous { at: Place },
     /// Memory ran out. It is answered too where a form stands in the program that is not built, which its tokens tell
-    /// before; where a number of a refusal has no place, and where an integer type has parts, neither of which comes.
+    /// before; where a number of a refusal has no place, where an integer type has parts, and where labels that were entered in
+    /// order are not in order, none of which comes.
     Memory,
 }
 
@@ -71,7 +73,7 @@ fn number_of(err: InferErr) -> u32 {
     }
 }
 
-/// The types of a program, or why it has none. The cost is that of inference.
+/// The types of a program, or why it has none. The cost is that of inference, or twice that.
 pub fn typed_program<'a>(alloc: Global, flat: Flat<'a>) -> Result<Accepted<'a>, TypeErr>
     ensures ok { IfOk result (Knows flat.entry) }
     ensures err { IfErr result (Mistyped (program_of flat.entry)) }
@@ -79,9 +81,8 @@ pub fn typed_program<'a>(alloc: Global, flat: Flat<'a>) -> Result<Accepted<'a>, 
     if !is_built(&flat) {
         return Err(TypeErr::Memory);
     }
-    let mut inference = new_inference(alloc);
-    match infer(alloc, &flat, &mut inference) {
-        Ok(()) => match integer_types(alloc, &flat, &inference) {
+    match inferred_in_order(alloc, &flat) {
+        Ok(inference) => match integer_types(alloc, &flat, &inference) {
             Ok(integers) => Ok(Accepted {
                 flat,
                 inference,

@@ -23,7 +23,8 @@ use Rattle.alias_program.specs.Program.{sub_of}
 use Rattle.alias_program.specs.declared.program.Program.{Program}
 use Rattle.alias_types.specs.Kinds.{kinds_of}
 use Rattle.typed_programs.specs.Known.{Is_known}
-use Rattle.typed_programs.specs.Mistyped.{Some_numbering}
+use Rattle.typed_programs.specs.Ordered.{Some_order}
+use Rattle.typed_programs.proofs.Ordering.{Numbers_in_order, numbers_in_order}
 use Rattle.typed_programs.specs.declared.typed.Accepted.{Accepted}
 use Rattle.alias_laws.proofs.Law.{kept_names_answer_the_same}
 use Rattle.unique_programs.specs.Rules.{First_broken, any_kinds}
@@ -73,13 +74,13 @@ module _ (accepted : Accepted) (known : Is_known accepted) (program : Program) w
     pub told_by : Told_by (First_broken (program_of accepted.flat) answer) accepted.inference
     told_by = record { labels = known.infers.typing.labels; some = known.infers.typing.some; holds = first_is }
 
-    pub some_numbering : (P : Names → Type 0) → ((N : Names) → First_broken (program_of accepted.flat) answer N → P N) → Some_numbering P
-    some_numbering P h = let w = known.infers.typing.some in (w.0, w.1.names, h w.0 (first_is w.0 w.1))
+    pub in_order : (P : Names → Type 0) → ((N : Names) → First_broken (program_of accepted.flat) answer N → P N) → Some_order P
+    in_order P h = let w : Numbers_in_order accepted.inference = numbers_in_order accepted.inference known.infers.typing.labels known.ordered known.infers.typing.some in (w.names, w.numbers.names, w.order, h w.names (first_is w.names w.numbers))
 
 module _ (accepted : Accepted) (known : Is_known accepted) (program : Program) (is : Shows accepted program) (rule : Broken) (first : (N : Names) → Knows program.names N → first_broken first_name_alone N (kinds_of program.kinds.now) (sub_of program.types.now) (program_of accepted.flat) ≡ Some rule)
     (names : List Text) (places : List Place) where
-  broken_by : (m : Misuse) → Tells names places rule m → Some_numbering (Is_broken (program_of accepted.flat) names places m)
-  broken_by m told = some_numbering accepted known program is (Some rule) first (Is_broken (program_of accepted.flat) names places m) (λ N w. record { rule = rule; first = w; told = told })
+  broken_by : (m : Misuse) → Tells names places rule m → Some_order (Is_broken (program_of accepted.flat) names places m)
+  broken_by m told = in_order accepted known program is (Some rule) first (Is_broken (program_of accepted.flat) names places m) (λ N w. record { rule = rule; first = w; told = told })
 
   pub misused : (m : Misuse) → Told names places rule m → Misused (program_of accepted.flat) names places m
   misused misuse.Memory told = tt

@@ -12,7 +12,7 @@ use Rattle.fut_aliases.specs.declared.refusals.Named.{Named}
 use Rattle.fut_aliases.specs.declared.refusals.Named.TheVariants.{ByAlias, ByName, ByPrimitive, AFunction}
 use Rattle.fut_aliases.specs.declared.refusals.Spot.{Spot}
 use Rattle.fut_aliases.specs.declared.refusals.Spot.TheVariants.{First, Mark}
-use Rattle.typed_programs.specs.Mistyped.{Some_numbering}
+use Rattle.typed_programs.specs.Ordered.{Some_order}
 use Rattle.unique_programs.specs.Rules.{First_broken}
 use Rattle.unique_programs.specs.declared.misuse.Misuse.{Misuse}
 use Rattle.unique_programs.specs.declared.misuse.Misuse.TheVariants as misuse
@@ -50,8 +50,8 @@ pub record Is_broken (ds : List Defined) (names : List Text) (places : List Plac
   pub first : First_broken ds (Some rule) N
   pub told : Tells names places rule refusal
 
--- Why a program of these definitions, whose names have these texts and whose nodes stand at these places, is refused. How names
--- and records are numbered decides which of two fields of a record comes first. Want of memory says nothing of the program.
+-- Why a program of these definitions, whose names have these texts and whose nodes stand at these places, is refused. Of two
+-- fields of a record the one whose name comes first is looked at first. Want of memory says nothing of the program.
 abbrev pub Misused : List Defined → List Text → List Place → Misuse → Type 0
 Misused ds names places misuse.Memory = Unit {0}
-Misused ds names places refusal = Some_numbering (Is_broken ds names places refusal)
+Misused ds names places refusal = Some_order (Is_broken ds names places refusal)

@@ -5,7 +5,7 @@ ghost use Rattle.fut_typing.specs.Program.{program_of};
 ghost use Rattle.flat_numbers.specs.Places.{program_places};
 ghost use Rattle.type_infer.specs.Inferring.{Told_by};
 ghost use Rattle.typed_programs.specs.Known.{Is_known};
-ghost use Rattle.typed_programs.specs.Mistyped.{Some_numbering};
+ghost use Rattle.typed_programs.specs.Ordered.{Some_order};
 ghost use Rattle.unique_programs.specs.Rules.{Breaks_none};
 ghost use Rattle.unique_programs.specs.Misuses.{Misused};
 ghost use Rattle.unique_programs.specs.Shown.{Shows};
@@ -70,7 +70,7 @@ pub fn unique_program<'a>(
 ) -> Result<(), Misuse>
     requires known { Is_known accepted.now }
     ensures ok { OnOk result (Told_by (Breaks_none (program_of accepted.now.flat)) accepted.now.inference) }
-    ensures numbered { OnOk result (Some_numbering (Breaks_none (program_of accepted.now.flat))) }
+    ensures numbered { OnOk result (Some_order (Breaks_none (program_of accepted.now.flat))) }
     ensures err { IfErr result (Misused (program_of accepted.now.flat) (texts accepted.now.flat.names.now) (program_places accepted.now.flat.definitions.now)) }
 {
     let program = match shown(alloc, bump, accepted) {

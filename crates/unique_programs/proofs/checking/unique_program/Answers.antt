@@ -4,7 +4,7 @@ use Rattle.fut_flat.specs.Erased.{texts}
 use Rattle.fut_typing.specs.Program.{program_of}
 use Rattle.flat_numbers.specs.Places.{program_places}
 use Rattle.unique_programs.specs.Rules.{Breaks_none}
-use Rattle.unique_programs.proofs.Typings.{misused, some_numbering, told_by}
+use Rattle.unique_programs.proofs.Typings.{in_order, misused, told_by}
 use Rattle.unique_programs.proofs.checking.unique_program.Goals as goal
 
 pub returns-in-Ok-check-clause-ok : goal.returns-in-Ok-check-clause-ok
@@ -12,7 +12,7 @@ returns-in-Ok-check-clause-ok c = told_by c.args.accepted.now c.requires.known c
 
 pub returns-in-Ok-check-clause-numbered : goal.returns-in-Ok-check-clause-numbered
 returns-in-Ok-check-clause-numbered c =
-    some_numbering c.args.accepted.now c.requires.known c.in-Ok.program c.in-Ok.ensures None c.in-Ok-check.ensures.accepted (Breaks_none (program_of c.args.accepted.now.flat)) (λ N w. w)
+    in_order c.args.accepted.now c.requires.known c.in-Ok.program c.in-Ok.ensures None c.in-Ok-check.ensures.accepted (Breaks_none (program_of c.args.accepted.now.flat)) (λ N w. w)
 
 pub returns-in-Err-Refused-clause-err : goal.returns-in-Err-Refused-clause-err
 returns-in-Err-Refused-clause-err c =
