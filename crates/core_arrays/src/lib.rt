@@ -6,4 +6,4 @@
 
 mod arrays;
 
-pub use arrays::{Arrays, Whole};
+pub use arrays::{Arrays, Cells, Whole};

@@ -1,5 +1,5 @@
 pub mod Frames
 pub mod Storing
-mod ScalarWords
-mod Reading
+pub mod ScalarWords
+pub mod Reading
 mod Operations

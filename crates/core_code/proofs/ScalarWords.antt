@@ -1,6 +1,6 @@
 -- Operations on scalars that are held as words.
 use Rattle.std.proofs.Common.{◌≡◌, ℕ, suc, ◌<◌, ◌≤◌, ◌^◌, Ok, Err, Bool, true, false, cond, refl, sym, ap, ◌∙◌, subst, arith}
-use Rattle.std.specs.Prelude.{ℤ, pos, ◌+◌, ◌-◌, ◌%◌, nat_lt, Some, None, Result}
+use Rattle.std.specs.Prelude.{ℤ, pos, ◌+◌, ◌-◌, ◌%◌, nat_lt, Option, Some, None, Result}
 use Rattle.std.specs.Int.{cast_signed}
 use Rattle.std.proofs.Math.Nat.{mod-eq_of_lt}
 use Rattle.std.proofs.lemmas.Bool.{ltb-true, ltb-false}
@@ -32,7 +32,7 @@ use Rattle.fut_meaning.specs.Accessors.{count_of, or_wrong}
 use Rattle.fut_meaning.specs.Operations.{report, reported}
 use Rattle.fut_meaning.specs.Operators.{by_kind, is_same_type, binary_result, unary_result}
 use Rattle.fut_meaning.specs.Outcomes.{Val, Fail}
-use Rattle.core_code.specs.Answers.{WordTold, word_told, word_failed, no_word, Binary_told, Unary_told, Converts}
+use Rattle.core_code.specs.Answers.{asked, WordTold, word_told, word_failed, no_word, Binary_told, Unary_told, Converts}
 use Rattle.core_code.specs.declared.stop.Stop.TheVariants.{Failed, Memory}
 
 -- ---- words of scalars
@@ -196,3 +196,21 @@ module _ (n r : ℕ) where
 
   pub no_more : (limit m : ℕ) → n < m → (n < limit → r ≡ n) → (limit ≤ n → r ≡ 0) → r < m
   no_more limit m h low high = by_limit (r < m) n limit (λ l. omega (arith, low l)) (λ l. omega (arith, high l))
+
+-- ---- the size that an integer asks for
+
+below_asks : (w : Width) (n k : ℕ) → k < 2 ^ hbits w → n + suc k ≡ 2 ^ bits w → asked (cast_signed w n) ≡ None
+below_asks w n k h e = let q : 2 ^ bits w - suc k ≡ n = omega arith in ap (λ m. asked (cast_signed w m)) (sym q) ∙ ap asked (to_z-neg w k h)
+
+module _ (n : ℕ) (r : Option ℕ) where
+  pub asked_8 : n < 2 ^ 8 → (n < 0x80 → r ≡ Some n) → (0x80 ≤ n → r ≡ None) → r ≡ asked (cast_signed w8 n)
+  asked_8 h low high = by_limit (r ≡ asked (cast_signed w8 n)) n 0x80 (λ l. low l ∙ sym (ap asked (to_z_pos w8 n l))) (λ l. high l ∙ sym (below_asks w8 n (255 - n) (omega arith) (omega arith)))
+
+  pub asked_16 : n < 2 ^ 16 → (n < 0x8000 → r ≡ Some n) → (0x8000 ≤ n → r ≡ None) → r ≡ asked (cast_signed w16 n)
+  asked_16 h low high = by_limit (r ≡ asked (cast_signed w16 n)) n 0x8000 (λ l. low l ∙ sym (ap asked (to_z_pos w16 n l))) (λ l. high l ∙ sym (below_asks w16 n (65535 - n) (omega arith) (omega arith)))
+
+  pub asked_32 : n < 2 ^ 32 → (n < 0x8000_0000 → r ≡ Some n) → (0x8000_0000 ≤ n → r ≡ None) → r ≡ asked (cast_signed w32 n)
+  asked_32 h low high = by_limit (r ≡ asked (cast_signed w32 n)) n 0x8000_0000 (λ l. low l ∙ sym (ap asked (to_z_pos w32 n l))) (λ l. high l ∙ sym (below_asks w32 n (4294967295 - n) (omega arith) (omega arith)))
+
+  pub asked_64 : n < 2 ^ 64 → (n < 0x8000_0000_0000_0000 → r ≡ Some n) → (0x8000_0000_0000_0000 ≤ n → r ≡ None) → r ≡ asked (cast_signed w64 n)
+  asked_64 h low high = by_limit (r ≡ asked (cast_signed w64 n)) n 0x8000_0000_0000_0000 (λ l. low l ∙ sym (ap asked (to_z_pos w64 n l))) (λ l. high l ∙ sym (below_asks w64 n (18446744073709551615 - n) (omega arith) (omega arith)))

@@ -1,5 +1,5 @@
 -- What the parts of a run answer, whatever names stand, in words of the meaning. Want of memory may come anywhere.
-use Rattle.std.specs.Prelude.{◌≡◌, ℕ, ◌&&◌, int_le, ◌<◌, ◌≤◌, ◌+◌, ◌^◌, List, [], ◌∷◌, ◌++◌, length, map, get_or, slice_get, slice_set, Bool, Some, Result, Ok, Err}
+use Rattle.std.specs.Prelude.{◌≡◌, ℕ, ◌&&◌, int_le, ◌<◌, ◌≤◌, ◌+◌, ◌^◌, List, [], ◌∷◌, ◌++◌, length, map, get_or, slice_get, slice_set, Bool, Some, None, Option, ℤ, pos, negsuc, Result, Ok, Err}
 use Rattle.fut_scalar.specs.Integers.{width_of}
 use Rattle.fut_scalar.specs.declared.operator.BinOp.{BinOp}
 use Rattle.fut_scalar.specs.declared.operator.UnOp.{UnOp}
@@ -58,6 +58,11 @@ Unary_told op t a r = (x : Scalar) → IsOf t x → IsDefinedOfOne op t → a �
 -- a word of one type as a word of another
 unfoldable pub Converts : ScalarType → ScalarType → ℕ → ℕ → Type 0
 Converts to t a w = (x : Scalar) → IsOf t x → a ≡ word_of x → IsOf to (converted to x) × (w ≡ word_of (converted to x))
+
+-- a size that an integer asks for; one below 0 asks for none
+abbrev pub asked : ℤ → Option ℕ
+asked (pos n) = Some n
+asked (negsuc n) = None
 
 -- the first size of an array
 pub data FirstTold (sizes : List ℕ) : Result ℕ Stop → Type 0 where

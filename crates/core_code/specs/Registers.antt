@@ -27,6 +27,11 @@ abbrev pub elem_of : Atom → ScalarType
 elem_of (atom.Var x) = x.elem
 elem_of (atom.Constant c) = type_of c
 
+-- how many dimensions an operand has
+abbrev pub rank_of : Atom → ℕ
+rank_of (atom.Var x) = x.rank
+rank_of (atom.Constant c) = 0
+
 -- a word is the bits of a scalar
 pub record ShowsScalar (t : ScalarType) (c : Component) (w : ℕ) : Type 0 where
   pub scalar : Scalar

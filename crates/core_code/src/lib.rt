@@ -11,8 +11,9 @@ mod registers;
 mod scalars;
 mod stop;
 
-pub use operate::run_operation;
+pub use operate::{length_of, run_operation};
 pub use registers::{
-    bind, elem_of, pop_truth, push, push_all, set_word, take, truth_at, turns_at, word_at,
+    bind, elem_of, pop_truth, push, push_all, rank_of, set_word, take, truth_at, turns_at, word_at,
 };
+pub use scalars::{asked, fits, low_bits};
 pub use stop::Stop;

@@ -37,12 +37,13 @@ fn operated(operation: Operation, place: Place, table: &[u64], arrays: &Arrays) 
         }
         Operation::Assert(_) => Err(Stop::Memory),
         Operation::CheckSize(_, _) => Err(Stop::Memory),
+        Operation::Dimension(_, _) => Err(Stop::Memory),
     }
 }
 
 /// The first size of an array.
 #[tactic(auto, using(crate::proofs::Operations::first_sizes))]
-fn length_of(at: u64, arrays: &Arrays) -> Result<u64, Stop>
+pub fn length_of(at: u64, arrays: &Arrays) -> Result<u64, Stop>
     ensures told { First_size arrays.now.arrays at result }
     ensures memory { OnlyMemory result }
 {

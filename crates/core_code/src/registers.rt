@@ -1,6 +1,6 @@
 // Registers, and the words that have no names yet.
 ghost use Rattle.std.specs.Prelude.{◌≡◌, ◌∷◌, [], ◌<◌, ◌++◌, IfSome};
-ghost use Rattle.core_code.specs.Registers.{elem_of};
+ghost use Rattle.core_code.specs.Registers.{elem_of, rank_of};
 ghost use Rattle.core_code.specs.Answers.{Binds, OnlyMemory, Pops, Pushed, Reads, Reads_all, Set, Stored, Takes, Truth_reads, Turns_read};
 
 use crate::scalars::{constant, count_of, fits, type_of};
@@ -15,6 +15,16 @@ pub fn elem_of(atom: Atom) -> ScalarType
     match atom {
         Atom::Var(x) => x.elem,
         Atom::Constant(scalar) => type_of(scalar),
+    }
+}
+
+/// How many dimensions an operand has.
+pub fn rank_of(atom: Atom) -> u32
+    ensures { result ≡ rank_of atom }
+{
+    match atom {
+        Atom::Var(x) => x.rank,
+        Atom::Constant(_) => 0,
     }
 }
 

@@ -1,13 +1,13 @@
 // Operations on scalars that are held as words.
-ghost use Rattle.std.specs.Prelude.{◌≡◌, ◌<◌, ◌≤◌, ◌^◌, true};
+ghost use Rattle.std.specs.Prelude.{◌≡◌, ◌<◌, ◌≤◌, ◌^◌, true, Some, None};
 ghost use Rattle.fut_scalar.specs.Integers.{integer_of, width_of};
 ghost use Rattle.fut_scalar.specs.Reports.{kind_of};
 ghost use Rattle.fut_meaning.specs.Operations.{report};
 ghost use Rattle.fut_arithmetic.specs.Types.{IsDefined, IsDefinedOfOne, type_of};
-ghost use Rattle.fut_arithmetic.specs.Words.{word_of};
+ghost use Rattle.fut_arithmetic.specs.Words.{scalar_of_word, word_of};
 ghost use Rattle.fut_blocks.specs.Meaning.{fitted};
 ghost use Rattle.fut_meaning.specs.Accessors.{count_of};
-ghost use Rattle.core_code.specs.Answers.{Binary_told, Converts, Unary_told};
+ghost use Rattle.core_code.specs.Answers.{Binary_told, Converts, Unary_told, asked};
 
 use crate::stop::Stop;
 use fut_arithmetic::{binop, convert, decode_word, encode_word, unop};
@@ -134,4 +134,33 @@ pub fn count_of(ty: IntType, bits: u64) -> u64
         IntType::I64 => up_to(0x8000_0000_0000_0000, bits),
         IntType::U8 | IntType::U16 | IntType::U32 | IntType::U64 => bits,
     }
+}
+
+/// The low bits of a word, as many as a type has.
+pub fn low_bits(ty: ScalarType, word: u64) -> u64
+    ensures { result ≡ word_of (scalar_of_word ty word) }
+{
+    encode_word(decode_word(ty, word))
+}
+
+/// The size that an integer asks for, and none where it is below 0.
+pub fn asked(ty: IntType, bits: u64) -> Option<u64>
+    requires { bits < 2 ^ width_of ty }
+    ensures { result ≡ asked (integer_of ty bits) }
+{
+    match ty {
+        IntType::I8 => below(0x80, bits),
+        IntType::I16 => below(0x8000, bits),
+        IntType::I32 => below(0x8000_0000, bits),
+        IntType::I64 => below(0x8000_0000_0000_0000, bits),
+        IntType::U8 | IntType::U16 | IntType::U32 | IntType::U64 => Some(bits),
+    }
+}
+
+/// The bits where they are below a limit.
+fn below(limit: u64, bits: u64) -> Option<u64>
+    ensures low { bits < limit → result ≡ Some bits }
+    ensures high { limit ≤ bits → result ≡ None }
+{
+    if bits < limit { Some(bits) } else { None }
 }

@@ -1,9 +1,9 @@
 pub mod Layers
 pub mod Tight
 mod SomeOutcome
-mod Fitted
+pub mod Fitted
 mod Having
 mod Sorted
 mod Deeds
-mod NeverWrong
+pub mod NeverWrong
 mod Examples

@@ -1,5 +1,5 @@
 -- A well-formed Core never goes wrong: each outcome is a report, or results of their sorts.
-use Rattle.std.proofs.Common.{◌≡◌, inl, inr, ◌&&◌, int_le, ℕ, suc, nat_eq, List, [], ◌∷◌, ◌++◌, map, Bool, true, false, cond, Option, Some, None, refl, sym, ap, ◌∙◌, subst, eq-eqb}
+use Rattle.std.proofs.Common.{◌≡◌, inl, inr, ◌&&◌, int_le, ℕ, zero, suc, ◌<◌, nat_eq, length, slice_get, arith, List, [], ◌∷◌, ◌++◌, map, Bool, true, false, cond, Option, Some, None, refl, sym, ap, ◌∙◌, subst, eq-eqb}
 use Rattle.fut_scalar.specs.declared.operator.BinOp.{BinOp}
 use Rattle.fut_scalar.specs.declared.operator.BinOp.TheVariants as binary
 use Rattle.fut_scalar.specs.declared.operator.ScalarFault.{ScalarFault}
@@ -8,7 +8,7 @@ use Rattle.fut_scalar.specs.declared.operator.UnOp.TheVariants as unary
 use Rattle.fut_scalar.specs.declared.place.Place.{Place}
 use Rattle.fut_scalar.specs.declared.report.FailKind.TheVariants as kind
 use Rattle.fut_scalar.specs.declared.scalar.IntType.{IntType}
-use Rattle.fut_scalar.specs.declared.scalar.IntType.TheVariants.{I64}
+use Rattle.fut_scalar.specs.declared.scalar.IntType.TheVariants.{I64, U64}
 use Rattle.fut_scalar.specs.declared.scalar.Scalar.{Scalar}
 use Rattle.fut_scalar.specs.declared.scalar.Scalar.TheVariants as scalar
 use Rattle.fut_scalar.specs.declared.scalar.ScalarType.{ScalarType}
@@ -35,11 +35,11 @@ use Rattle.core_ir.specs.declared.block.Atom.{Atom}
 use Rattle.core_ir.specs.declared.block.Atom.TheVariants as atom
 use Rattle.core_ir.specs.declared.block.Operation.{Operation}
 use Rattle.core_ir.specs.Lists.{sifted, prefixes_on}
-use Rattle.core_ir.specs.Bundles.{Component, One, Row, rows_in, rows_of, row_sizes, stacked, glued, array_words}
+use Rattle.core_ir.specs.Bundles.{Component, One, Row, sizes, rows_in, rows_of, row_sizes, stacked, glued, array_words}
 use Rattle.core_ir.specs.Arrays.{scalar_in, exact_in, i64, all_told, numbers_below, array_rows, array_sizes, written, done, fresh_words}
 use Rattle.core_ir.specs.Plain.{Bundle, Source, Action, Operate, Do, Map, Filter, Partition, Reduce, Scan, Scatter, Hist, If, For, For_in, While, Function, Of_two, Body, Give, Let, body_of}
 use Rattle.core_ir.specs.Meaning.{Env, Results, number, value_of, values_of, groups_of, scalar_at, truth_at, one, operated, named, under, holds, source_rows, collected, kept, parted, tested, test_turn, Reduction, reduction, reduced, scanned, scattered, combined, act_means, function_means, body_means}
-use Rattle.core_ir.specs.Typed.{Sort, sort_of, Sorts, scalar_sort, i64_sort, truth_sort, lifted, Bundled, bare, full, Atom_is, Atoms_are, Groups_are, with_vars, Told, Operation_gives, binary_gives, unary_gives, convert_gives, assert_gives, length_gives, check_gives, Rows_are, Source_gives, rows_give, numbers_give, Act_gives, operate_gives, deed_gives, map_gives, filter_gives, partition_gives, reduce_gives, scan_gives, scatter_gives, hist_gives, if_gives, for_gives, for_in_gives, while_gives, Operator_is, operator_is, Body_gives, give_gives, let_gives}
+use Rattle.core_ir.specs.Typed.{Sort, sort_of, Sorts, scalar_sort, i64_sort, truth_sort, lifted, Bundled, bare, full, Atom_is, Atoms_are, Groups_are, with_vars, Told, Operation_gives, binary_gives, unary_gives, convert_gives, assert_gives, length_gives, dimension_gives, check_gives, Rows_are, Source_gives, rows_give, numbers_give, Act_gives, operate_gives, deed_gives, map_gives, filter_gives, partition_gives, reduce_gives, scan_gives, scatter_gives, hist_gives, if_gives, for_gives, for_in_gives, while_gives, Operator_is, operator_is, Body_gives, give_gives, let_gives}
 use Rattle.core_ir.specs.Programs.{Core_means, All_of_type, no_cell, cell_and, Is_of, one_is, many_is, AreOf}
 use Rattle.core_ir.specs.Claims.{NeverWrong}
 use Rattle.core_ir.proofs.Having.{every_more, has_then, has_as, has_checked}
@@ -67,7 +67,7 @@ name_has : (k : ℕ) (s : Sort) {G : Sorts} {env : Env} → Holds G env → look
 name_has k s no_name e = no_some e
 name_has k s (name_and {x} {s = t} {c} {G} {env} h r) e = looked_up (nat_eq x k) s t c (look G k) (look env k) h e (λ q. name_has k s r q)
 
-fitted_type : (c : Scalar) → type_of (fitted c) ≡ type_of c
+pub fitted_type : (c : Scalar) → type_of (fitted c) ≡ type_of c
 fitted_type (scalar.Int t n) = refl
 fitted_type (scalar.Bool b) = refl
 
@@ -128,7 +128,7 @@ integers_give : (op : BinOp) (at : Place) (t : IntType) (m n : ℕ) → HasOut (
 unfolding binary_result result_of
 integers_give op at t m n = subst (λ b. HasOut (Of_type (result_type op (sort.Int t))) (reported at (cond b (Some (by_kind (integer_result op t m n))) None))) (sym (same_type t)) (result_has at (result_type op (sort.Int t)) (integer_result op t m n) (typed op t m n))
 
-binary_has : (op : BinOp) (at : Place) (t : ScalarType) (x y : Scalar) → IsDefined op t → Of_type t x → Of_type t y → HasOut (Of_type (result_type op t)) (reported at (binary_result op x y))
+pub binary_has : (op : BinOp) (at : Place) (t : ScalarType) (x y : Scalar) → IsDefined op t → Of_type t x → Of_type t y → HasOut (Of_type (result_type op t)) (reported at (binary_result op x y))
 binary_has op at (sort.Int t) (scalar.Int u m) (scalar.Int v n) d p q =
     subst (λ z. HasOut (Of_type (result_type op (sort.Int t))) (reported at (binary_result op (scalar.Int z m) (scalar.Int v n)))) (sym (int_is p))
     (subst (λ z. HasOut (Of_type (result_type op (sort.Int t))) (reported at (binary_result op (scalar.Int t m) (scalar.Int z n)))) (sym (int_is q)) (integers_give op at t m n))
@@ -149,14 +149,14 @@ unfolding unary_result result_of_one
 truth_gives unary.Not b d = refl
 truth_gives op b d = absurd d
 
-unary_has : (op : UnOp) (t : ScalarType) (x : Scalar) → IsDefinedOfOne op t → Of_type t x → HasOut (Of_type (result_type_of_one op t)) (or_wrong (unary_result op x))
+pub unary_has : (op : UnOp) (t : ScalarType) (x : Scalar) → IsDefinedOfOne op t → Of_type t x → HasOut (Of_type (result_type_of_one op t)) (or_wrong (unary_result op x))
 unfolding unary_result result_of_one
 unary_has op (sort.Int t) (scalar.Int u m) d p = integer_gives op u m ∙ ap (λ z. result_type_of_one op z) p
 unary_has op (sort.Int t) (scalar.Bool b) d p = absurd (let z : sort.Bool ≡ sort.Int t = p in cc)
 unary_has op sort.Bool (scalar.Bool b) d p = truth_gives op b d
 unary_has op sort.Bool (scalar.Int u m) d p = absurd (let z : sort.Int u ≡ sort.Bool = p in cc)
 
-converted_type : (t : ScalarType) (s : Scalar) → type_of (converted t s) ≡ t
+pub converted_type : (t : ScalarType) (s : Scalar) → type_of (converted t s) ≡ t
 converted_type (sort.Int t) (scalar.Int u m) = refl
 converted_type (sort.Int t) (scalar.Bool b) = refl
 converted_type sort.Bool (scalar.Int u m) = refl
@@ -168,6 +168,15 @@ truth_has (scalar.Int t n) e = absurd (let z : sort.Int t ≡ sort.Bool = e in c
 
 rows_in_has : (t : ScalarType) (r : ℕ) (c : Component) → Is_of c (t, suc r) → HasOut Any (rows_in c)
 rows_in_has t r _ (many_is e l a) = tt
+
+size_there : (k : ℕ) (ds : List ℕ) → k < length ds → HasOut Any (or_wrong (slice_get ds k))
+size_there k [] lt = absurd (omega (arith, lt))
+size_there zero (d ∷ ds) lt = tt
+size_there (suc k) (d ∷ ds) lt = size_there k ds (omega (arith, lt))
+
+size_has : (k : ℕ) (t : ScalarType) (r : ℕ) (c : Component) → Is_of c (t, r) → k < r → HasOut Any (or_wrong (slice_get (sizes c) k))
+size_has k t _ _ (one_is e) lt = absurd (omega (arith, lt))
+size_has k t _ _ (many_is {n = n} {ds = ds} e l a) lt = size_there k (n ∷ ds) (omega (arith, lt, e))
 
 module _ {G : Sorts} {env : Env} (h : Holds G env) where
   scalar_has : (u : Atom) (t : ScalarType) → Atom_is G u (scalar_sort t) → HasOut (Of_type t) (scalar_at env u)
@@ -186,6 +195,8 @@ module _ {G : Sorts} {env : Env} (h : Holds G env) where
   operated_has _ at (assert_gives {a} p) = has_then Any (λ cs. AreOf cs []) (truth_at env a) _ (truth_at_has a p) (λ b u. has_checked (λ cs. AreOf cs []) b kind.Assert at (Val []) all_none)
   operated_has _ at (length_gives {a} t r p) =
       has_then (λ c. Is_of c (t, suc r)) (λ cs. AreOf cs (i64_sort ∷ [])) (value_of env a) _ (value_has h a (t, suc r) p) (λ c q. has_then Any (λ cs. AreOf cs (i64_sort ∷ [])) (rows_in c) _ (rows_in_has t r c q) (λ n u. all_more (one_is refl) all_none))
+  operated_has _ at (dimension_gives {a} {k} t r p lt) =
+      has_then (λ c. Is_of c (t, r)) (λ cs. AreOf cs ((sort.Int U64, 0) ∷ [])) (value_of env a) _ (value_has h a (t, r) p) (λ c q. has_then Any (λ cs. AreOf cs ((sort.Int U64, 0) ∷ [])) (or_wrong (slice_get (sizes c) k)) _ (size_has k t r c q lt) (λ n u. all_more (one_is refl) all_none))
   operated_has _ at (check_gives {a} {b} {s} {t} i j p q) =
       has_then (λ c. Is_of c s) (λ cs. AreOf cs []) (value_of env a) _ (value_has h a s p) (λ c e. has_then (λ c. Is_of c t) (λ cs. AreOf cs []) (value_of env b) _ (value_has h b t q) (λ d f.
       has_then Any (λ cs. AreOf cs []) (exact_in c) _ (exact_has c s i e) (λ z u. has_then Any (λ cs. AreOf cs []) (exact_in d) _ (exact_has d t j f) (λ w v. has_checked (λ cs. AreOf cs []) (int_le z w && int_le w z) kind.Size at (Val []) all_none))))

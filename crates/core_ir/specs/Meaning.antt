@@ -1,9 +1,10 @@
 -- What blocks of Core mean: which outcomes they may have, each with the fresh words that it counts. Steps go in order, and the
 -- first that fails gives its report to the whole. It is said in the words by which the copying meaning of programs is said, and
 -- by structure, since there is no function but the blocks of steps. With a budget of turns for each `while`.
-use Rattle.std.specs.Prelude.{ℕ, ◌&&◌, int_le, List, [], ◌∷◌, ◌++◌, map, Bool, true, false}
+use Rattle.std.specs.Prelude.{ℕ, ◌&&◌, int_le, slice_get, List, [], ◌∷◌, ◌++◌, map, Bool, true, false}
 use Rattle.fut_scalar.specs.declared.place.Place.{Place}
 use Rattle.fut_scalar.specs.declared.report.FailKind.TheVariants as kind
+use Rattle.fut_scalar.specs.declared.scalar.IntType.TheVariants.{U64}
 use Rattle.fut_scalar.specs.declared.scalar.Scalar.{Scalar}
 use Rattle.fut_scalar.specs.declared.scalar.Scalar.TheVariants as scalar
 use Rattle.fut_arithmetic.specs.Conversions.{converted}
@@ -21,7 +22,7 @@ use Rattle.core_ir.specs.declared.block.Atom.TheVariants as atom
 use Rattle.core_ir.specs.declared.block.Operation.{Operation}
 use Rattle.core_ir.specs.declared.block.Operation.TheVariants as operation
 use Rattle.core_ir.specs.Lists.{sifted, prefixes_on}
-use Rattle.core_ir.specs.Bundles.{Component, One, Row, rows_in, rows_of, row_sizes, stacked, glued, array_words}
+use Rattle.core_ir.specs.Bundles.{Component, One, Row, sizes, rows_in, rows_of, row_sizes, stacked, glued, array_words}
 use Rattle.core_ir.specs.Arrays.{scalar_in, exact_in, sized_by, i64, all_told, numbers_below, array_rows, array_sizes, rows_together, written, done, fresh_words}
 use Rattle.core_ir.specs.Plain.{Bundle, Source, Of_rows, Of_numbers, Action, Operate, Do, Map, Filter, Partition, Reduce, Scan, Scatter, Hist, If, For, For_in, While, Function, Of_two, Body, Give, Let}
 
@@ -75,6 +76,7 @@ operated env (operation.Unary op a) at = and_then (scalar_at env a) (λ s. one (
 operated env (operation.Convert t a) at = and_then (scalar_at env a) (λ s. one (Val (converted t s)))
 operated env (operation.Assert a) at = and_then (truth_at env a) (λ b. checked b kind.Assert at (Val []))
 operated env (operation.Length a) at = and_then (value_of env a) (λ c. and_then (rows_in c) (λ n. one (Val (i64 n))))
+operated env (operation.Dimension a k) at = and_then (value_of env a) (λ c. and_then (or_wrong (slice_get (sizes c) k)) (λ n. one (Val (scalar.Int U64 n))))
 operated env (operation.CheckSize a b) at = and_then (value_of env a) (λ c. and_then (value_of env b) (λ d. and_then (exact_in c) (λ z. and_then (exact_in d) (λ w. checked (int_le z w && int_le w z) kind.Size at (Val [])))))
 
 -- ---- functions of rows

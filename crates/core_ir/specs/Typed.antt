@@ -1,8 +1,8 @@
 -- When blocks are well typed: each operand has the type of its elements and the rank that its step needs, and each variable those
 -- that its step gives. Sizes are not spoken of.
-use Rattle.std.specs.Prelude.{◌≡◌, ℕ, suc, ◌+◌, Bool, true, false, List, [], ◌∷◌, ◌++◌, map, length, Some}
+use Rattle.std.specs.Prelude.{◌≡◌, ℕ, suc, ◌+◌, ◌<◌, Bool, true, false, List, [], ◌∷◌, ◌++◌, map, length, Some}
 use Rattle.fut_scalar.specs.declared.scalar.IntType.{IntType}
-use Rattle.fut_scalar.specs.declared.scalar.IntType.TheVariants.{I64}
+use Rattle.fut_scalar.specs.declared.scalar.IntType.TheVariants.{I64, U64}
 use Rattle.fut_scalar.specs.declared.scalar.ScalarType.{ScalarType}
 use Rattle.fut_scalar.specs.declared.scalar.ScalarType.TheVariants as sort
 use Rattle.fut_scalar.specs.declared.place.Place.{Place}
@@ -93,6 +93,7 @@ pub data Operation_gives (G : Sorts) : Operation → List Sort → Type 0 where
   convert_gives : {a : Atom} {t : ScalarType} (u : ScalarType) → Atom_is G a (scalar_sort u) → Operation_gives G (operation.Convert t a) (scalar_sort t ∷ [])
   assert_gives : {a : Atom} → Atom_is G a truth_sort → Operation_gives G (operation.Assert a) []
   length_gives : {a : Atom} (t : ScalarType) (r : ℕ) → Atom_is G a (t, suc r) → Operation_gives G (operation.Length a) (i64_sort ∷ [])
+  dimension_gives : {a : Atom} {k : ℕ} (t : ScalarType) (r : ℕ) → Atom_is G a (t, r) → k < r → Operation_gives G (operation.Dimension a k) ((sort.Int U64, 0) ∷ [])
   check_gives : {a b : Atom} {s t : Sort} → Integer s → Integer t → Atom_is G a s → Atom_is G b t → Operation_gives G (operation.CheckSize a b) []
 
 -- how many numbers the parts of an index ask for

@@ -36,6 +36,8 @@ pub enum Operation {
     Assert(Atom),
     /// How many rows an array has.
     Length(Atom),
+    /// How long an array is in one of its dimensions, as a u64. The outermost has the number 0.
+    Dimension(Atom, u32),
     /// Both sizes have to be the same.
     CheckSize(Atom, Atom),
 }

@@ -27,7 +27,7 @@ map_turned f (x ∷ xs) ys = map_turned f xs (x ∷ ys)
 map_reversed : {A B : Type 0} (f : A → B) (xs : List A) → reverse (map f xs) ≡ map f (reverse xs)
 map_reversed f xs = map_turned f xs []
 
-every_turned : {A : Type 0} (P : A → Type 0) (xs ys : List A) → Every P xs → Every P ys → Every P (reverse_aux xs ys)
+pub every_turned : {A : Type 0} (P : A → Type 0) (xs ys : List A) → Every P xs → Every P ys → Every P (reverse_aux xs ys)
 every_turned P [] ys e f = f
 every_turned P (x ∷ xs) ys e f = every_turned P xs (x ∷ ys) e.1 (e.0, f)
 
@@ -159,7 +159,7 @@ module _ (misfit : Bool) (at : Place) (w : ℕ) where
   each_uncut [] = refl
   each_uncut (x ∷ xs) = ap (λ z. and_then z (λ ys. Val (x ∷ ys))) (each_uncut xs)
 
-  each_whole : (ds : List Datum) → each_out (source.cut []) ds ≡ Val ds
+  pub each_whole : (ds : List Datum) → each_out (source.cut []) ds ≡ Val ds
   unfolding source.cut
   each_whole [] = refl
   each_whole (d ∷ ds) = ap (λ z. and_then z (λ es. Val (d ∷ es))) (each_whole ds)
@@ -172,7 +172,7 @@ module _ (misfit : Bool) (at : Place) (w : ℕ) where
       on_given (Is_row (Array_shape n (cut_shape cs row))) (Array_datum (cut_shape cs row) (datums ds)) (record { regular = an_array o (listed_rows (cut_shape cs row) ds p.are); shaped = ap (λ z. Array_shape z (cut_shape cs row)) (ap length (listed_datums ds) ∙ p.many ∙ l) }))
 
   -- the shape of what is cut out is met
-  cut_met : (cs : List Cut) (h : Shape) → Cuts_fit w cs h → One_type h h → One_type (cut_shape cs h) (cut_shape cs h)
+  pub cut_met : (cs : List Cut) (h : Shape) → Cuts_fit w cs h → One_type h h → One_type (cut_shape cs h) (cut_shape cs h)
   cut_met _ h fit_end o = o
   cut_met _ _ (fit_row lt e) (arrays o) = o
   cut_met _ _ (fit_rows {c = c} {cs} {h} lt f) (arrays o) = cut_met (c ∷ cs) h f o
@@ -180,7 +180,7 @@ module _ (misfit : Bool) (at : Place) (w : ℕ) where
   cut_met _ _ (fit_reverse {cs = cs} {h} f) (arrays o) = arrays (cut_met cs h f o)
 
   -- regular, and of the shape that the parts leave
-  cut_still : (cs : List Cut) (d : Datum) → Regular d → Cuts_fit w cs (shape_of d) → On_value (Is_row (cut_shape cs (shape_of d))) (source.cut cs d)
+  pub cut_still : (cs : List Cut) (d : Datum) → Regular d → Cuts_fit w cs (shape_of d) → On_value (Is_row (cut_shape cs (shape_of d))) (source.cut cs d)
   unfolding source.cut shape_of
   cut_still [] d g f = on_given (Is_row (shape_of d)) d (record { regular = g; shaped = refl })
   cut_still (c ∷ cs) (Scalar_datum s) g f = no_scalar f

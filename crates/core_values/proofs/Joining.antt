@@ -24,7 +24,7 @@ use Rattle.core_values.proofs.Selecting.{full, full_sizes, stacked_full, array_r
 
 -- ---- one row, many times
 
-every_copy : {A : Type 0} (P : A → Type 0) (n : ℕ) (x : A) → P x → Every P (replicate n x)
+pub every_copy : {A : Type 0} (P : A → Type 0) (n : ℕ) (x : A) → P x → Every P (replicate n x)
 every_copy P zero x p = tt
 every_copy P (suc n) x p = (p, every_copy P n x p)
 

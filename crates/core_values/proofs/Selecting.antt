@@ -212,7 +212,7 @@ every_more : {A : Type 0} (P : A → Type 0) (xs ys : List A) → Every P xs →
 every_more P [] ys e f = f
 every_more P (x ∷ xs) ys e f = (e.0, every_more P xs ys e.1 f)
 
-every_around : {A : Type 0} (P : A → Type 0) (z : ℤ) (xs : List A) → Every P xs → Every P (around z xs)
+pub every_around : {A : Type 0} (P : A → Type 0) (z : ℤ) (xs : List A) → Every P xs → Every P (around z xs)
 every_around P z xs e = every_more P (drop (unsigned_abs (int_rem_euclid z (pos (length xs)))) xs) (take (unsigned_abs (int_rem_euclid z (pos (length xs)))) xs) (every_dropped P _ xs e) (every_taken P _ xs e)
 
 pub rotated_agree : (misfit : Bool) (at : Place) (z : ℤ) (row : Shape) (ds : Datums) → Regular (Array_datum row ds) → and_then (array_rows misfit at (components (Array_datum row ds))) (λ rs. glued misfit at (array_sizes (components (Array_datum row ds))) (around z rs)) ≡ apart (array_of at row (jobs.around z (listed ds)))

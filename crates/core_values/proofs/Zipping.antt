@@ -137,7 +137,7 @@ on_fitting P false true at o h e q = h e q
 on_fitting P false false at o h e q = failed q
 on_fitting P true false at o h e q = absurd (let z : Wrong ≡ Val e = q in cc)
 
-columns_each : (misfit : Bool) (at : Place) (a : Told) (rest : List Told) → Regular (array_in a) → All_arrays rest → On_value (Every (Row_of_each (a ∷ rest))) (columns misfit at (a.0, listed a.1) (all_arrays rest))
+pub columns_each : (misfit : Bool) (at : Place) (a : Told) (rest : List Told) → Regular (array_in a) → All_arrays rest → On_value (Every (Row_of_each (a ∷ rest))) (columns misfit at (a.0, listed a.1) (all_arrays rest))
 columns_each misfit at a [] g no_array = on_given (Every (Row_of_each (a ∷ []))) (alone (listed a.1)) (alone_each a (listed a.1) (rows_in a g))
 columns_each misfit at a (b ∷ rest) g (array_and h k) =
     on_fitting (Every (Row_of_each (a ∷ b ∷ rest))) misfit (nat_eq (length (listed a.1)) (length (listed b.1))) at _
@@ -161,7 +161,7 @@ tuple_is : (rest : List Told) (r : List Datum) → Row_of_each rest r → Is_row
 unfolding shape_of
 tuple_is rest r e = record { regular = a_tuple (all_regular rest r e); shaped = ap Tuple_shape (row_shape_is rest r e) }
 
-tuples_are : (rest : List Told) (rs : List (List Datum)) → Every (Row_of_each rest) rs → Every (Is_row (Tuple_shape (row_shapes rest))) (map tupled rs)
+pub tuples_are : (rest : List Told) (rs : List (List Datum)) → Every (Row_of_each rest) rs → Every (Is_row (Tuple_shape (row_shapes rest))) (map tupled rs)
 tuples_are rest [] e = tt
 tuples_are rest (r ∷ rs) e = (tuple_is rest r e.0, tuples_are rest rs e.1)
 

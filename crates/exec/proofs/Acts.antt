@@ -1,32 +1,30 @@
 -- What steps with blocks answer, by what their parts do.
-use Rattle.std.proofs.Common.{◌≡◌, ℕ, ◌<◌, ◌≤◌, ◌^◌, List, [], ◌∷◌, ◌++◌, length, map, Bool, true, false, Bor, Ok, Err, sym, ap, ◌∙◌, refl, subst, arith}
-use Rattle.fut_scalar.specs.Integers.{width_of}
+use Rattle.std.proofs.Common.{◌≡◌, ℕ, List, length, map, true, false, Bor, Ok, Err, sym, ap, ◌∙◌, refl, subst}
 use Rattle.fut_scalar.specs.declared.place.Place.{Place}
-use Rattle.fut_scalar.specs.declared.report.FailKind.TheVariants as kind
 use Rattle.fut_scalar.specs.declared.scalar.IntType.{IntType}
 use Rattle.fut_scalar.specs.declared.scalar.ScalarType.TheVariants as sort
 use Rattle.fut_meaning.specs.Accessors.{turns_of_scalar}
 use Rattle.fut_meaning.specs.Meaning.{counts}
-use Rattle.fut_meaning.specs.Operations.{report}
-use Rattle.fut_meaning.specs.Outcomes.{Out, Val, and_then, the, Then, choose, turns, while_turns}
+use Rattle.fut_meaning.specs.Outcomes.{and_then, the, Then, choose, turns}
 use Rattle.core_ir.specs.declared.block.Var.{Var}
 use Rattle.core_ir.specs.declared.block.Atom.{Atom}
 use Rattle.core_ir.specs.declared.block.Block.{Block}
+use Rattle.core_ir.specs.declared.block.Making.{Making}
+use Rattle.core_ir.specs.declared.block.View.{View}
 use Rattle.core_ir.specs.declared.block.Op.{Op}
 use Rattle.core_ir.specs.declared.block.Op.TheVariants as op
-use Rattle.core_ir.specs.Bundles.{Component, Row}
-use Rattle.core_ir.specs.Meaning.{Env, Results, values_of, scalar_at, truth_at, under, test_turn, for_turns, act_means, body_means}
+use Rattle.core_ir.specs.Bundles.{Row}
+use Rattle.core_ir.specs.Meaning.{Results, values_of, scalar_at, truth_at, for_turns, act_means}
 use Rattle.core_ir.specs.Numbered.{Act_numbered}
-use Rattle.core_ir.specs.Plain.{Action, If, For, While, Body, action_of, body_of}
-use Rattle.core_ir.specs.Typed.{Sort, Sorts, sort_of, Atom_is, Atoms_are, Act_gives, if_gives, for_gives, while_gives}
-use Rattle.core_ir.proofs.Layers.{action_of-If, action_of-For, action_of-While}
-use Rattle.core_arrays.specs.Arenas.{Arena}
-use Rattle.core_code.specs.Registers.{State, state, AllShow, Stands, Kept}
-use Rattle.core_code.specs.Answers.{Answer, TruthTold, truth_told, Truth_reads, TurnsTold, turns_told, Turns_read, ReadAll, read_all, Reads_all, Runs, ran, failed, no_memory}
-use Rattle.core_code.specs.Runs.{act_runs, body_runs, Act_runs, Body_runs, Lies, Turning, index_turn, For_runs, loops, While_runs}
+use Rattle.core_ir.specs.Plain.{Action, If, For, While, Body, view_form, making_form, action_of, body_of}
+use Rattle.core_ir.specs.Typed.{Sort, sort_of, Atom_is, if_gives, for_gives, while_gives}
+use Rattle.core_ir.proofs.Layers.{action_of-View, action_of-Make, action_of-If, action_of-For, action_of-While}
+use Rattle.core_code.specs.Registers.{State, state}
+use Rattle.core_code.specs.Answers.{Answer, TruthTold, truth_told, Truth_reads, TurnsTold, turns_told, Turns_read, ReadAll, read_all, Reads_all, Runs, no_memory}
+use Rattle.core_code.specs.Runs.{act_runs, body_runs, Act_runs, Body_runs, index_turn, For_runs, loops, While_runs}
 use Rattle.core_code.specs.declared.stop.Stop.{Stop}
 use Rattle.core_code.specs.declared.stop.Stop.TheVariants.{Memory}
-use Rattle.core_code.proofs.Frames.{Leads, leads_trans, leads_val, runs_on, runs_in, kept_same, stands_more}
+use Rattle.core_code.proofs.Frames.{leads_trans, leads_val, runs_on, runs_in, kept_same, stands_more}
 use Rattle.exec.proofs.Steps.{body_rises}
 
 pub act_memory : (budget : ℕ) (a : Action) (S S' : State) (e : Stop) → e ≡ Memory → Act_runs budget a S S' (Err e)
@@ -95,5 +93,12 @@ module _ (budget : ℕ) (o : Op) (at : Place) (xs : Bor (List Var)) (us : Bor (L
   pub op_while : (t b : Bor Block) → o ≡ op.While xs us t b → While_runs budget (body_of t.now) (body_of b.now) xs.now at mark (state S.arena S.words s1) S' r → Act_runs budget (action_of o at) S S' r
   op_while t b e x =
       subst (λ a. Act_runs budget a S S' r) (sym (ap (λ z. action_of z at) e ∙ action_of-While xs us t b at)) (while_act_done budget S S' us.now s1 mark r p h at xs.now (body_of t.now) (body_of b.now) x)
+
+-- steps that run no block
+pub op_view : (budget : ℕ) (o : Op) (v : View) (at : Place) (S S' : State) (r : Answer) → o ≡ op.View v → Act_runs budget (view_form v at) S S' r → Act_runs budget (action_of o at) S S' r
+op_view budget o v at S S' r e h = subst (λ a. Act_runs budget a S S' r) (sym (ap (λ z. action_of z at) e ∙ action_of-View v at)) h
+
+pub op_make : (budget : ℕ) (o : Op) (m : Making) (at : Place) (S S' : State) (r : Answer) → o ≡ op.Make m → Act_runs budget (making_form m at) S S' r → Act_runs budget (action_of o at) S S' r
+op_make budget o m at S S' r e h = subst (λ a. Act_runs budget a S S' r) (sym (ap (λ z. action_of z at) e ∙ action_of-Make m at)) h
 
 pub ruleset act_rules = (act_memory, action_of-If, if_yes, if_no)

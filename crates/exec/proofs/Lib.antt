@@ -1,4 +1,8 @@
 mod Steps
 mod Acts
 mod Loops
+mod Folds
+mod FoldActs
+mod Maps
+mod MapActs
 mod Programs

@@ -1,33 +1,27 @@
 -- Turns of loops.
-use Rattle.std.proofs.Common.{◌≡◌, ℕ, zero, suc, ◌+◌, ◌-◌, ◌<◌, ◌≤◌, ◌^◌, List, [], ◌∷◌, ◌++◌, length, map, take, slice_get, slice_set, Bool, true, false, not, Some, Result, Ok, Err, refl, sym, ap, ◌∙◌, subst, arith, add-one}
-use Rattle.std.specs.Prelude.{◌==◌}
+use Rattle.std.proofs.Common.{◌≡◌, ℕ, zero, suc, ◌+◌, ◌-◌, ◌<◌, ◌≤◌, ◌^◌, List, [], ◌∷◌, ◌++◌, length, map, take, slice_get, Bool, true, false, Some, Result, Ok, Err, refl, sym, ap, ◌∙◌, subst, arith, add-one}
 use Rattle.std.proofs.Math.Seq.{take-append_seam}
 use Rattle.fut_scalar.specs.Integers.{width_of}
 use Rattle.fut_scalar.specs.declared.place.Place.{Place}
 use Rattle.fut_scalar.specs.declared.report.FailKind.TheVariants as kind
 use Rattle.fut_scalar.specs.declared.report.Report.{Report}
 use Rattle.fut_scalar.specs.declared.scalar.IntType.{IntType}
-use Rattle.fut_scalar.specs.declared.scalar.Scalar.{Scalar}
 use Rattle.fut_scalar.specs.declared.scalar.Scalar.TheVariants as scalar
-use Rattle.fut_scalar.specs.declared.scalar.ScalarType.TheVariants as sort
 use Rattle.fut_meaning.specs.Meaning.{counts}
 use Rattle.fut_meaning.specs.Operations.{report}
-use Rattle.fut_meaning.specs.Outcomes.{Out, Val, Fail, Wrong, Rel, exact, gives, the, Then, goes_on, stops, sticks, choose, turns, while_turns}
+use Rattle.fut_meaning.specs.Outcomes.{Val, Fail, Rel, exact, gives, the, Then, goes_on, stops, choose, turns, while_turns}
 use Rattle.fut_blocks.specs.Meaning.{bound}
-use Rattle.fut_blocks.specs.Numbered.{Upward}
-use Rattle.core_arrays.specs.Arenas.{Array, Arena}
 use Rattle.core_ir.specs.declared.block.Var.{Var}
 use Rattle.core_ir.specs.Bundles.{Component, One, Row}
-use Rattle.core_ir.specs.Meaning.{Env, Results, number, under, holds, test_turn, body_means}
-use Rattle.core_ir.specs.Numbered.{Body_numbered}
+use Rattle.core_ir.specs.Meaning.{Env, Results, number, under, holds, test_turn}
 use Rattle.core_ir.specs.Plain.{Body}
-use Rattle.core_ir.specs.Typed.{Sort, Sorts, sort_of, truth_sort, with_vars, Body_gives}
+use Rattle.core_ir.specs.Typed.{Sorts, sort_of, truth_sort, with_vars}
 use Rattle.core_code.specs.Registers.{State, state, Shows, AllShow, Stands, Kept}
-use Rattle.core_code.specs.Answers.{Answer, OnlyMemory, TruthTold, truth_told, no_truth, IfTold, is_told, not_told, Pops, IfDone, done, not_done, Taken, taken, not_taken, Binds, Takes, Set, set, not_set, Runs, ran, failed, no_memory}
+use Rattle.core_code.specs.Answers.{Answer, OnlyMemory, TruthTold, truth_told, IfTold, is_told, Pops, IfDone, done, Taken, taken, Binds, Takes, Set, set, Runs, ran, failed, no_memory}
 use Rattle.core_code.specs.Runs.{body_runs, Body_runs, Turning, Lies, with_stack, index_turn, Turn_runs, For_runs, Testing, Tested, tested, test_failed, no_memory_tested, Test_runs, loops, While_runs}
 use Rattle.core_code.specs.declared.stop.Stop.{Stop}
 use Rattle.core_code.specs.declared.stop.Stop.TheVariants.{Failed, Memory}
-use Rattle.core_code.proofs.Frames.{the_is, Leads, leads_same, leads_trans, leads_then, leads_first, leads_val, runs_on, runs_in, kept_same, kept_less, kept_trans, stands_kept, stands_more, all_show_on}
+use Rattle.core_code.proofs.Frames.{the_is, Leads, leads_same, leads_trans, leads_then, leads_first, runs_on, kept_same, kept_less, kept_trans, stands_kept, stands_more, all_show_on}
 use Rattle.core_code.proofs.Storing.{upward_rises, stands_new, get_apart}
 use Rattle.exec.proofs.Steps.{body_rises, named_leads}
 
@@ -81,7 +75,7 @@ turning_on : (G : Sorts) (env : Env) (xs : List Var) (i : Var) (ty : IntType) (b
 turning_on G env xs i ty b n S0 S c k on = record { mid = on.mid; last = on.last; stands = stands_kept G env n S0 S c on.stands k; rises = on.rises; index = on.index; sort = on.sort; typed = on.typed; numbered = on.numbered }
 
 -- the same, whatever words lie above
-kept_below : (n : ℕ) (S S' : State) (s : List ℕ) (c : ℕ) → Kept n (with_stack S s) S' c → Kept n S S' c
+pub kept_below : (n : ℕ) (S S' : State) (s : List ℕ) (c : ℕ) → Kept n (with_stack S s) S' c → Kept n S S' c
 kept_below n S S' s c k = record { words = k.words; arrays = k.arrays; handed = k.handed }
 
 kept_above : (n : ℕ) (S S' : State) (s : List ℕ) (c : ℕ) → Kept n S S' c → Kept n (with_stack S s) S' c

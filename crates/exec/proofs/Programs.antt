@@ -1,15 +1,13 @@
 -- A run as a whole.
-use Rattle.std.proofs.Common.{◌≡◌, ℕ, ◌≤◌, List, [], ◌∷◌, ◌++◌, length, map, slice_get, true, false, Ok, Err, refl, sym, ap, ◌∙◌, subst, arith}
-use Rattle.fut_blocks.specs.Numbered.{Upward}
+use Rattle.std.proofs.Common.{◌≡◌, ℕ, List, [], true, false, Ok, Err, refl, sym, subst, arith}
 use Rattle.core_arrays.specs.Arenas.{Array}
 use Rattle.core_ir.specs.declared.block.Core.{Core}
-use Rattle.core_ir.specs.Bundles.{Row}
-use Rattle.core_ir.specs.Meaning.{Env, number, under}
+use Rattle.core_ir.specs.Meaning.{under}
 use Rattle.core_ir.specs.Plain.{body_of}
-use Rattle.core_ir.specs.Programs.{Core_means, WellFormed}
-use Rattle.core_ir.specs.Typed.{sort_of, with_vars}
-use Rattle.core_code.specs.Registers.{State, state, AllShow, Stands, Kept}
-use Rattle.core_code.specs.Answers.{Answer, IfDone, done, Taken, taken, not_taken, Takes, Runs, no_memory}
+use Rattle.core_ir.specs.Programs.{Core_means}
+use Rattle.core_ir.specs.Typed.{with_vars}
+use Rattle.core_code.specs.Registers.{State, state, Stands}
+use Rattle.core_code.specs.Answers.{Answer, IfDone, done, Taken, taken, Takes, Runs, no_memory}
 use Rattle.core_code.specs.Runs.{body_runs, Body_runs}
 use Rattle.exec.specs.Whole.{Core_runs}
 use Rattle.core_code.specs.declared.stop.Stop.{Stop}

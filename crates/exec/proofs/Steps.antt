@@ -1,31 +1,26 @@
 -- Steps of a block, one after the other.
-use Rattle.std.proofs.Common.{◌≡◌, ℕ, zero, suc, ◌+◌, ◌<◌, ◌≤◌, List, [], ◌∷◌, ◌++◌, length, get_or, map, drop, Some, None, Ok, Err, refl, sym, ap, ◌∙◌, subst, arith, add-one, true, false}
+use Rattle.std.proofs.Common.{◌≡◌, ℕ, zero, suc, ◌+◌, ◌<◌, ◌≤◌, List, [], ◌∷◌, length, get_or, map, drop, Some, Ok, Err, refl, sym, ap, ◌∙◌, subst, arith, add-one}
 use Rattle.std.proofs.Math.Seq.{drop-cons}
-use Rattle.fut_scalar.specs.declared.report.Report.{Report}
 use Rattle.fut_meaning.specs.Accessors.{or_wrong}
-use Rattle.fut_meaning.specs.Outcomes.{Out, Val, Fail, Wrong, Rel, the, Then, goes_on, stops, sticks}
+use Rattle.fut_meaning.specs.Outcomes.{Val, Fail, Rel, goes_on, stops}
 use Rattle.fut_blocks.specs.Meaning.{bound}
-use Rattle.fut_blocks.specs.Numbered.{Upward}
-use Rattle.core_arrays.specs.Arenas.{Array, Arena}
 use Rattle.core_ir.specs.declared.block.Var.{Var}
 use Rattle.core_ir.specs.declared.block.Atom.{Atom}
 use Rattle.core_ir.specs.declared.block.Operation.{Operation}
 use Rattle.core_ir.specs.declared.block.Op.TheVariants as op
-use Rattle.core_ir.specs.declared.block.Op.{Op}
 use Rattle.core_ir.specs.declared.block.Block.{Block, out-Block}
 use Rattle.core_ir.specs.declared.block.Step.{Step, out-Step}
-use Rattle.core_ir.specs.Bundles.{Component, Row}
-use Rattle.core_ir.specs.Meaning.{Env, Results, number, named, under, values_of, act_means, body_means}
+use Rattle.core_ir.specs.Bundles.{Row}
+use Rattle.core_ir.specs.Meaning.{Env, number, named, under, values_of, body_means}
 use Rattle.core_ir.specs.Numbered.{Act_numbered, Body_numbered, Function_numbered}
 use Rattle.core_ir.specs.Plain.{Action, Operate, Do, Map, Filter, Partition, Reduce, Scan, Scatter, Hist, If, For, For_in, While, Function, Of_two, Body, Give, Let, lets, action_of, binding_of, body_of}
-use Rattle.core_ir.specs.Typed.{Sort, Sorts, sort_of, with_vars, Act_gives, Body_gives, give_gives, let_gives}
+use Rattle.core_ir.specs.Typed.{Sort, Sorts, sort_of, with_vars, Body_gives, give_gives, let_gives}
 use Rattle.core_ir.proofs.Layers.{action_of-Operate, body_of-parts, binding_of-parts}
-use Rattle.core_code.specs.Registers.{State, state, AllShow, Stands, Kept}
+use Rattle.core_code.specs.Registers.{State, state, Stands, Kept}
 use Rattle.core_code.specs.Answers.{Answer, ReadAll, read_all, no_memory_read_all, Reads_all, IfDone, done, Taken, taken, not_taken, Takes, Runs, ran, failed, no_memory, Stepped, stepped, step_failed, no_memory_stepped}
 use Rattle.core_code.specs.Runs.{act_runs, body_runs, Act_runs, Body_runs, step_means, Step_runs}
 use Rattle.core_code.specs.declared.stop.Stop.{Stop}
-use Rattle.core_code.specs.declared.stop.Stop.TheVariants.{Failed, Memory}
-use Rattle.core_code.proofs.Frames.{the_is, Leads, leads_same, leads_trans, leads_then, runs_on, runs_in, kept_same, kept_less, kept_trans, stands_kept, stands_more}
+use Rattle.core_code.proofs.Frames.{the_is, Leads, leads_same, leads_trans, leads_then, runs_on, kept_same, kept_less, kept_trans, stands_kept, stands_more}
 use Rattle.core_code.proofs.Storing.{upward_rises}
 
 -- numbers only rise

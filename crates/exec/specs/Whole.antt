@@ -1,5 +1,5 @@
 -- A run as a whole.
-use Rattle.std.specs.Prelude.{ℕ, List, [], map, true, false}
+use Rattle.std.specs.Prelude.{ℕ, [], map, true, false}
 use Rattle.core_ir.specs.declared.block.Core.{Core}
 use Rattle.core_ir.specs.Bundles.{Row}
 use Rattle.core_ir.specs.Programs.{Core_means, WellFormed}

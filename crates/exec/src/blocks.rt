@@ -1,14 +1,20 @@
 // Runs of blocks, steps and loops.
 ghost use Rattle.std.specs.Prelude.{◌≡◌};
-ghost use Rattle.core_ir.specs.Plain.{action_of, binding_of, body_of};
+ghost use Rattle.core_ir.specs.Plain.{action_of, binding_of, body_of, bundle_form, source_form};
 ghost use Rattle.core_code.specs.Registers.{state};
 ghost use Rattle.core_code.specs.Runs.{Act_runs, Body_runs, For_runs, Step_runs, Test_runs, Turn_runs, While_runs};
+ghost use Rattle.core_ir.specs.declared.block.Block.{out-Block};
+ghost use Rattle.exec.specs.Folds.{Fold_runs, Row_turn_runs, Under_runs};
+ghost use Rattle.exec.specs.Maps.{Each_runs, Element_runs};
 
 use core_arrays::Arrays;
 use core_code::{
     Stop, bind, pop_truth, push_all, run_operation, set_word, take, truth_at, turns_at,
 };
-use core_ir::{Block, Op, Step, Var};
+use core_ir::{Atom, Block, Op, Over, Rows, Step, Var};
+use core_steps::{
+    bundle_count, glue, push_bundle, push_source, run_making, run_view, source_count,
+};
 use fut_scalar::{FailKind, IntType, Place, Report, ScalarType};
 
 /// Runs a block, and puts the words of its results on the stack.
@@ -97,8 +103,190 @@ fn run_op(
             push_all(first, table, stack)?;
             run_while(test, body, params, place, mark, turns, table, stack, arrays)
         }
+        _ => run_apply(op, place, turns, table, stack, arrays),
+    }
+}
+
+/// Runs a step over arrays, and puts the words that it gives on the stack.
+#[tactic(auto, using(crate::proofs::Acts::act_rules))]
+#[cycle(blocks)]
+fn run_apply(
+    op: &Op,
+    place: Place,
+    turns: u64,
+    table: &mut [u64],
+    stack: &mut Vec<u64>,
+    arrays: &mut Arrays,
+) -> Result<(), Stop>
+    ensures { Act_runs turns (action_of op.now place) (state arrays.old table.old stack.old.items) (state arrays.new table.new stack.new.items) result }
+{
+    match op {
+        Op::View(view) => run_view(*view, place, table, stack, arrays),
+        Op::Make(making) => run_making(*making, place, table, stack, arrays),
+        Op::ForIn {
+            params,
+            first,
+            row,
+            rows,
+            body,
+        } => {
+            let mark = stack.len();
+            push_all(first, table, stack)?;
+            let count = bundle_count(*rows, place, table, arrays)?;
+            run_rows(
+                body, params, row, *rows, count, mark, turns, table, stack, arrays,
+            )
+        }
+        Op::Reduce {
+            neutral,
+            rows,
+            operator,
+        } => {
+            let mark = stack.len();
+            push_all(neutral, table, stack)?;
+            let count = bundle_count(*rows, place, table, arrays)?;
+            run_rows(
+                operator.body,
+                operator.left,
+                operator.right,
+                *rows,
+                count,
+                mark,
+                turns,
+                table,
+                stack,
+                arrays,
+            )
+        }
+        Op::Map {
+            over,
+            sizes: _,
+            params,
+            body,
+        } => {
+            let mark = stack.len();
+            let count = source_count(*over, place, table, arrays)?;
+            if count == 0 {
+                return Err(Stop::Memory);
+            }
+            run_each(body, params, *over, count, turns, table, stack, arrays)?;
+            glue(results_of(body), count, mark, place, stack, arrays)
+        }
         _ => Err(Stop::Memory),
     }
+}
+
+/// What a block comes to.
+fn results_of<'a>(block: &'a Block) -> &'a [Atom]
+    ensures { result.now ≡ (out-Block block.now).results.now }
+{
+    block.results
+}
+
+/// Applies a block to each row of a source, and puts the words of all results on the stack.
+#[tactic(auto, using(crate::proofs::Maps::maps))]
+#[cycle(blocks)]
+fn run_each(
+    body: &Block,
+    params: &[Var],
+    over: Over,
+    count: u64,
+    turns: u64,
+    table: &mut [u64],
+    stack: &mut Vec<u64>,
+    arrays: &mut Arrays,
+) -> Result<(), Stop>
+    ensures { Each_runs turns (body_of body.now) params.now (source_form over.entry) count (state arrays.old table.old stack.old.items) (state arrays.new table.new stack.new.items) result }
+{
+    for i in 0..count {
+        run_element(body, params, over, i, turns, table, stack, arrays)?;
+    }
+    Ok(())
+}
+
+/// Applies a block to one row of a source.
+#[tactic(auto, using(crate::proofs::Maps::elements))]
+#[cycle(blocks)]
+fn run_element(
+    body: &Block,
+    params: &[Var],
+    over: Over,
+    i: u64,
+    turns: u64,
+    table: &mut [u64],
+    stack: &mut Vec<u64>,
+    arrays: &mut Arrays,
+) -> Result<(), Stop>
+    ensures { Element_runs turns (body_of body.now) params.now (source_form over.entry) i (state arrays.old table.old stack.old.items) (state arrays.new table.new stack.new.items) result }
+{
+    let mark = stack.len();
+    push_source(over, i, table, stack, arrays)?;
+    run_under(body, params, mark, turns, table, stack, arrays)
+}
+
+/// Takes a turn for each row of a bundle, with the words of the parameters on the stack from the mark on.
+#[tactic(auto, using(crate::proofs::Folds::folds))]
+#[cycle(blocks)]
+fn run_rows(
+    body: &Block,
+    params: &[Var],
+    row: &[Var],
+    rows: Rows,
+    count: u64,
+    mark: usize,
+    turns: u64,
+    table: &mut [u64],
+    stack: &mut Vec<u64>,
+    arrays: &mut Arrays,
+) -> Result<(), Stop>
+    ensures { Fold_runs turns (body_of body.now) params.now row.now (bundle_form rows.entry) count mark (state arrays.old table.old stack.old.items) (state arrays.new table.new stack.new.items) result }
+{
+    for i in 0..count {
+        run_row_turn(
+            body, params, row, rows, i, mark, turns, table, stack, arrays,
+        )?;
+    }
+    Ok(())
+}
+
+/// Takes a turn for one row.
+#[tactic(auto, using(crate::proofs::Folds::row_turns))]
+#[cycle(blocks)]
+fn run_row_turn(
+    body: &Block,
+    params: &[Var],
+    row: &[Var],
+    rows: Rows,
+    i: u64,
+    mark: usize,
+    turns: u64,
+    table: &mut [u64],
+    stack: &mut Vec<u64>,
+    arrays: &mut Arrays,
+) -> Result<(), Stop>
+    ensures { Row_turn_runs turns (body_of body.now) params.now row.now (bundle_form rows.entry) i mark (state arrays.old table.old stack.old.items) (state arrays.new table.new stack.new.items) result }
+{
+    take(params, mark, table, stack)?;
+    push_bundle(rows, i, table, stack, arrays)?;
+    run_under(body, row, mark, turns, table, stack, arrays)
+}
+
+/// Runs a block under parameters whose words lie on the stack from the mark on.
+#[tactic(auto, using(crate::proofs::Folds::unders))]
+#[cycle(blocks)]
+fn run_under(
+    body: &Block,
+    params: &[Var],
+    mark: usize,
+    turns: u64,
+    table: &mut [u64],
+    stack: &mut Vec<u64>,
+    arrays: &mut Arrays,
+) -> Result<(), Stop>
+    ensures { Under_runs turns (body_of body.now) params.now mark (state arrays.old table.old stack.old.items) (state arrays.new table.new stack.new.items) result }
+{
+    take(params, mark, table, stack)?;
+    run_block(body, turns, table, stack, arrays)
 }
 
 /// Takes the turns of a counted loop, whose words lie on the stack from the mark on.

@@ -1,11 +1,14 @@
-use Rattle.std.proofs.Common.{ℕ, List, Ok, true, subst, arith}
+use Rattle.std.proofs.Common.{Ok, refl, subst, arith}
 use Rattle.std.proofs.lemmas.Result.{err_from_is_err_and}
-use Rattle.core_ir.specs.Plain.{body_of}
+use Rattle.core_ir.specs.Plain.{body_of, bundle_form, source_form}
 use Rattle.core_code.specs.Registers.{state}
 use Rattle.core_code.specs.Answers.{Binds}
-use Rattle.core_code.specs.Runs.{Test_runs}
-use Rattle.exec.proofs.Acts.{op_for, op_while}
-use Rattle.exec.proofs.Loops.{turn_done, test_memory, test_run_stop, test_over, while_body_stop, while_more}
+use Rattle.exec.proofs.Acts.{op_for, op_while, op_view, op_make}
+use Rattle.exec.proofs.FoldActs.{op_for_in, op_for_in_failed, op_reduce, op_reduce_failed}
+use Rattle.exec.proofs.Folds.{row_turn_done, under_done}
+use Rattle.exec.proofs.MapActs.{op_map, op_map_failed, op_map_stopped}
+use Rattle.exec.proofs.Maps.{element_done}
+use Rattle.exec.proofs.Loops.{turn_done, test_run_stop, test_over, while_body_stop, while_more}
 use Rattle.exec.proofs.Steps.{step_done, step_operated, block_end}
 use Rattle.exec.proofs.blocks.+blocks.Goals as goal
 
@@ -72,3 +75,74 @@ run_while-loop-preserved t c =
     (state c.args.arrays.now c.args.table.now c.args.stack.now.items) (state c.loop.arrays c.loop.table c.loop.stack.items) (state c.run_test.new.arrays c.run_test.new.table c.run_test.new.stack.items) c.loop.invariant
     c.truncate.new.self.items c.truncate.ensures.items (state c.run_block.new.arrays c.run_block.new.table c.run_block.new.stack.items)
     (omega (arith, c.loop-test.true)) (rw c.if-not-branch.false at c.in_ok-run_test.ensures) c.in_ok-run_block.ensures
+
+pub run_apply-returns-in_err-count-in-ForIn : goal.run_apply-returns-in_err-count-in-ForIn
+run_apply-returns-in_err-count-in-ForIn t c =
+    let p = err_from_is_err_and c.from_residual-in_err-count-in-ForIn.result c.from_residual-in_err-count-in-ForIn.ensures.1 in
+    rw (p.1, p.2)
+    (op_for_in_failed c.args.turns c.args.op.now c.args.place c.in-ForIn.first c.in-ForIn.rows (state c.args.arrays.now c.args.table.now c.args.stack.now.items) (state c.args.arrays.now c.args.table.now c.push_all.new.stack.items)
+    c.push_all.new.stack.items c.len-mark.result (omega (arith, c.len-mark.ensures, c.args.stack.now.ok.0)) c.in_ok-push_all-in-ForIn.ensures.told
+    c.in-ForIn.params c.in-ForIn.row c.in-ForIn.body c.in-ForIn.is c.in_err-count-in-ForIn.field-0.0 c.in_err-count-in-ForIn.ensures)
+
+pub run_apply-returns-in_ok-count-in-ForIn : goal.run_apply-returns-in_ok-count-in-ForIn
+run_apply-returns-in_ok-count-in-ForIn t c =
+    op_for_in c.args.turns c.args.op.now c.args.place c.in-ForIn.first c.in-ForIn.rows (state c.args.arrays.now c.args.table.now c.args.stack.now.items) (state c.run_rows.new.arrays c.run_rows.new.table c.run_rows.new.stack.items)
+    c.push_all.new.stack.items c.len-mark.result (omega (arith, c.len-mark.ensures, c.args.stack.now.ok.0)) c.in_ok-push_all-in-ForIn.ensures.told
+    c.in-ForIn.params c.in-ForIn.row c.in-ForIn.body c.in-ForIn.is c.in_ok-count-in-ForIn.count c.run_rows.result c.in_ok-count-in-ForIn.ensures c.run_rows.ensures
+
+pub run_apply-returns-in_err-count-in-Reduce : goal.run_apply-returns-in_err-count-in-Reduce
+run_apply-returns-in_err-count-in-Reduce t c =
+    let p = err_from_is_err_and c.from_residual-in_err-count-in-Reduce.result c.from_residual-in_err-count-in-Reduce.ensures.1 in
+    rw (p.1, p.2)
+    (op_reduce_failed c.args.turns c.args.op.now c.args.place c.in-Reduce.neutral c.in-Reduce.rows (state c.args.arrays.now c.args.table.now c.args.stack.now.items) (state c.args.arrays.now c.args.table.now c.push_all-in-Reduce.new.stack.items)
+    c.push_all-in-Reduce.new.stack.items c.len-mark-in-Reduce.result (omega (arith, c.len-mark-in-Reduce.ensures, c.args.stack.now.ok.0)) c.in_ok-push_all-in-Reduce.ensures.told
+    c.in-Reduce.operator c.in-Reduce.is c.in_err-count-in-Reduce.field-0.0 c.in_err-count-in-Reduce.ensures)
+
+pub run_apply-returns-in_ok-count-in-Reduce : goal.run_apply-returns-in_ok-count-in-Reduce
+run_apply-returns-in_ok-count-in-Reduce t c =
+    op_reduce c.args.turns c.args.op.now c.args.place c.in-Reduce.neutral c.in-Reduce.rows (state c.args.arrays.now c.args.table.now c.args.stack.now.items) (state c.run_rows-in-Reduce.new.arrays c.run_rows-in-Reduce.new.table c.run_rows-in-Reduce.new.stack.items)
+    c.push_all-in-Reduce.new.stack.items c.len-mark-in-Reduce.result (omega (arith, c.len-mark-in-Reduce.ensures, c.args.stack.now.ok.0)) c.in_ok-push_all-in-Reduce.ensures.told
+    c.in-Reduce.operator c.in-Reduce.is c.in_ok-count-in-Reduce.count c.run_rows-in-Reduce.result c.in_ok-count-in-Reduce.ensures c.run_rows-in-Reduce.ensures
+
+pub run_row_turn-returns : goal.run_row_turn-returns
+run_row_turn-returns t c =
+    row_turn_done c.args.turns (body_of c.args.body.now) c.args.params.now c.args.row.now (bundle_form c.args.rows) c.args.i c.args.mark (state c.args.arrays.now c.args.table.now c.args.stack.now.items)
+    c.take.new.table c.take.new.stack.items (state c.push_bundle.new.arrays c.take.new.table c.push_bundle.new.stack.items) (state c.run_under.new.arrays c.run_under.new.table c.run_under.new.stack.items) c.run_under.result
+    c.in_ok-take.ensures.told c.in_ok-push_bundle.ensures.told refl c.run_under.ensures
+
+pub run_under-returns : goal.run_under-returns
+run_under-returns t c =
+    under_done c.args.turns (body_of c.args.body.now) c.args.params.now c.args.mark (state c.args.arrays.now c.args.table.now c.args.stack.now.items)
+    c.take.new.table c.take.new.stack.items (state c.run_block.new.arrays c.run_block.new.table c.run_block.new.stack.items) c.run_block.result c.in_ok-take.ensures.told c.run_block.ensures
+
+pub run_apply-returns-in_err-count-in-Map : goal.run_apply-returns-in_err-count-in-Map
+run_apply-returns-in_err-count-in-Map t c =
+    let p = err_from_is_err_and c.from_residual-in_err-count-in-Map.result c.from_residual-in_err-count-in-Map.ensures.1 in
+    rw (p.1, p.2)
+    (op_map_failed c.args.turns c.args.op.now c.args.place c.in-Map.over c.in-Map.sizes c.in-Map.params c.in-Map.body (state c.args.arrays.now c.args.table.now c.args.stack.now.items) c.in-Map.is (state c.args.arrays.now c.args.table.now c.args.stack.now.items) c.in_err-count-in-Map.field-0.0 c.in_err-count-in-Map.ensures)
+
+pub run_apply-returns-in_err-run_each-in-Map : goal.run_apply-returns-in_err-run_each-in-Map
+run_apply-returns-in_err-run_each-in-Map t c =
+    let p = err_from_is_err_and c.from_residual-in_err-run_each-in-Map.result c.from_residual-in_err-run_each-in-Map.ensures.1 in
+    rw (p.1, p.2)
+    (op_map_stopped c.args.turns c.args.op.now c.args.place c.in-Map.over c.in-Map.sizes c.in-Map.params c.in-Map.body (state c.args.arrays.now c.args.table.now c.args.stack.now.items) c.in-Map.is c.in_ok-count-in-Map.count c.in_ok-count-in-Map.ensures
+    (state c.run_each.new.arrays c.run_each.new.table c.run_each.new.stack.items) c.in_err-run_each-in-Map.field-0.0 c.in_err-run_each-in-Map.ensures)
+
+pub run_apply-returns-in_ok-run_each-in-Map : goal.run_apply-returns-in_ok-run_each-in-Map
+run_apply-returns-in_ok-run_each-in-Map t c =
+    op_map c.args.turns c.args.op.now c.args.place c.in-Map.over c.in-Map.sizes c.in-Map.params c.in-Map.body (state c.args.arrays.now c.args.table.now c.args.stack.now.items) c.in-Map.is c.in_ok-count-in-Map.count c.in_ok-count-in-Map.ensures c.len-mark-in-Map.result
+    (state c.run_each.new.arrays c.run_each.new.table c.run_each.new.stack.items) (state c.glue.new.arrays c.run_each.new.table c.glue.new.stack.items) c.glue.result
+    (λ e. absurd (omega (arith, e, c.if-count-eq0.false))) (omega (arith, c.len-mark-in-Map.ensures, c.args.stack.now.ok.0)) c.in_ok-run_each-in-Map.ensures c.results_of.result.now c.results_of.ensures (c.glue.ensures c.run_each.new.table) refl
+
+pub run_element-returns : goal.run_element-returns
+run_element-returns t c =
+    element_done c.args.turns (body_of c.args.body.now) c.args.params.now (source_form c.args.over) c.args.i (state c.args.arrays.now c.args.table.now c.args.stack.now.items) c.len-mark.result (state c.push_source.new.arrays c.args.table.now c.push_source.new.stack.items)
+    (state c.run_under.new.arrays c.run_under.new.table c.run_under.new.stack.items) c.run_under.result (omega (arith, c.len-mark.ensures, c.args.stack.now.ok.0)) refl c.in_ok-push_source.ensures.told c.run_under.ensures
+
+pub run_apply-returns-in-View : goal.run_apply-returns-in-View
+run_apply-returns-in-View t c =
+    op_view c.args.turns c.args.op.now c.in-View.view c.args.place (state c.args.arrays.now c.args.table.now c.args.stack.now.items) (state c.run_view.new.arrays c.args.table.now c.run_view.new.stack.items) c.run_view.result c.in-View.is (c.run_view.ensures c.args.turns)
+
+pub run_apply-returns-in-Make : goal.run_apply-returns-in-Make
+run_apply-returns-in-Make t c =
+    op_make c.args.turns c.args.op.now c.in-Make.making c.args.place (state c.args.arrays.now c.args.table.now c.args.stack.now.items) (state c.run_making.new.arrays c.args.table.now c.run_making.new.stack.items) c.run_making.result c.in-Make.is (c.run_making.ensures c.args.turns)

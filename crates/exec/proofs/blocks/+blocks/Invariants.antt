@@ -2,8 +2,10 @@ use Rattle.std.proofs.Common.{◌+◌, ◌*◌, max}
 use Rattle.core_ir.specs.declared.block.Op.{size-Op}
 use Rattle.core_ir.specs.declared.block.Block.{size-Block}
 use Rattle.core_ir.specs.declared.block.Step.{size-Step}
-use Rattle.core_ir.specs.Plain.{body_of}
+use Rattle.core_ir.specs.Plain.{body_of, bundle_form, source_form}
 use Rattle.core_code.specs.Registers.{state}
+use Rattle.exec.proofs.Folds.{Fold_goes}
+use Rattle.exec.proofs.Maps.{Each_goes}
 use Rattle.exec.proofs.Loops.{For_goes, While_goes}
 use Rattle.exec.proofs.Steps.{Block_goes}
 use Rattle.exec.proofs.blocks.+blocks.Given as goal
@@ -15,7 +17,10 @@ abbrev pub decreases-run_step : goal.decreases-run_step
 decreases-run_step l = 6 * size-Step l.step.now + 1
 
 abbrev pub decreases-run_op : goal.decreases-run_op
-decreases-run_op l = 6 * size-Op l.op.now
+decreases-run_op l = 6 * size-Op l.op.now + 1
+
+abbrev pub decreases-run_apply : goal.decreases-run_apply
+decreases-run_apply l = 6 * size-Op l.op.now
 
 abbrev pub decreases-run_for : goal.decreases-run_for
 decreases-run_for l = 6 * size-Block l.body.now + 4
@@ -29,6 +34,21 @@ decreases-run_test l = 6 * size-Block l.test.now + 3
 abbrev pub decreases-run_while : goal.decreases-run_while
 decreases-run_while l = 6 * max (size-Block l.test.now) (size-Block l.body.now) + 4
 
+abbrev pub decreases-run_rows : goal.decreases-run_rows
+decreases-run_rows l = 6 * size-Block l.body.now + 5
+
+abbrev pub decreases-run_each : goal.decreases-run_each
+decreases-run_each l = 6 * size-Block l.body.now + 5
+
+abbrev pub decreases-run_element : goal.decreases-run_element
+decreases-run_element l = 6 * size-Block l.body.now + 4
+
+abbrev pub decreases-run_row_turn : goal.decreases-run_row_turn
+decreases-run_row_turn l = 6 * size-Block l.body.now + 4
+
+abbrev pub decreases-run_under : goal.decreases-run_under
+decreases-run_under l = 6 * size-Block l.body.now + 3
+
 abbrev pub invariant-run_block-loop-step : goal.invariant-run_block-loop-step
 invariant-run_block-loop-step l = Block_goes l.turns l.block l.step-index (state l.initial.arrays l.initial.table l.initial.stack.items) (state l.arrays l.table l.stack.items)
 
@@ -37,3 +57,9 @@ invariant-run_for-loop-turn l = For_goes l.turns (body_of l.body) l.params l.ind
 
 abbrev pub invariant-run_while-loop : goal.invariant-run_while-loop
 invariant-run_while-loop l = While_goes l.turns l.counter (body_of l.test) (body_of l.body) l.params l.place l.mark (state l.initial.arrays l.initial.table l.initial.stack.items) (state l.arrays l.table l.stack.items)
+
+abbrev pub invariant-run_rows-loop-i : goal.invariant-run_rows-loop-i
+invariant-run_rows-loop-i l = Fold_goes l.turns (body_of l.body) l.params l.row (bundle_form l.rows) l.count l.mark l.i (state l.initial.arrays l.initial.table l.initial.stack.items) (state l.arrays l.table l.stack.items)
+
+abbrev pub invariant-run_each-loop-i : goal.invariant-run_each-loop-i
+invariant-run_each-loop-i l = Each_goes l.turns (body_of l.body) l.params (source_form l.over) l.count l.i (state l.initial.arrays l.initial.table l.initial.stack.items) (state l.arrays l.table l.stack.items)

@@ -1,0 +1,11 @@
+mod Counting
+pub mod Taking
+mod Bundling
+pub mod Operands
+mod Sizing
+mod Weighing
+mod Gathering
+mod Glueing
+mod Sourcing
+mod Makes
+mod Indices

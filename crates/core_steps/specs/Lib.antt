@@ -1,0 +1,5 @@
+pub mod Rows
+pub mod Gluing
+pub mod Sources
+pub mod Deeds
+pub mod Indexing
