@@ -195,7 +195,7 @@ module _ (N : Names) (types : Sub) (s : ℕ → Size) (home : ℕ → ℕ) where
 
   -- the value of an argument at a node, where it is a name or a constant that an i64 holds
   abbrev pub Is_value : FlatTerm → ℕ → Context → Free → Type 0
-  Is_value (Use (ref.Bound x) at j) mid G d = (d ≡ Name x.0) × (G.sizes x.0 ≡ Some i64_size)
+  Is_value (Use (ref.Bound x) at j) mid G d = (d ≡ Name x.0) × ((G.sizes x.0 ≡ Some i64_size) ⊎ (G.schemes x.0 ≡ Some i64_size))
   Is_value (Strict (Integer c t) mark no_term) mid G d = (d ≡ Const c) × (s mid ≡ i64_size) × (c < 2 ^ 63)
   Is_value e mid G d = ⊥
 

@@ -44,9 +44,9 @@ with_name b t G = record { sizes = λ c. cond (nat_eq b c) (Some t) (G.sizes c);
 abbrev pub with_size_name : ℕ → Context → Context
 with_size_name b G = record { sizes = λ c. cond (nat_eq b c) (Some i64_size) (G.sizes c); schemes = λ c. cond (nat_eq b c) None (G.schemes c); general = G.general; finds = G.finds; finds_types = G.finds_types }
 
--- a general name is no size
+-- a general name that is bound to a number is found as a size too: a definition has one value
 abbrev pub with_scheme : ℕ → Size → (Variable → Bool) → Context → Context
-with_scheme b t new G = record { sizes = λ c. cond (nat_eq b c) None (G.sizes c); schemes = λ c. cond (nat_eq b c) (Some t) (G.schemes c); general = λ c. cond (nat_eq b c) new (G.general c); finds = λ d. cond (is_name b d) false (G.finds d); finds_types = G.finds_types }
+with_scheme b t new G = record { sizes = λ c. cond (nat_eq b c) None (G.sizes c); schemes = λ c. cond (nat_eq b c) (Some t) (G.schemes c); general = λ c. cond (nat_eq b c) new (G.general c); finds = λ d. cond (is_name b d) (is_number t) (G.finds d); finds_types = G.finds_types }
 
 -- a pattern took a value of this sized type
 abbrev pub with_entered : Size → Context → Context
@@ -65,18 +65,15 @@ with_size_names [] G = G
 with_size_names (b ∷ bs) G = with_size_names bs (with_size_name b G)
 
 module _ (s : ℕ → Size) where
-  -- the names of a pattern at a node, each of the sized type of its own node
+  -- a pattern at a node took a value of its node's sized type, and so did each of its parts; a name is of the type of its own node
   abbrev mutual
-    pub with_names : FlatPattern → ℕ → Context → Context
-    with_names (Bound_pattern b) q G = with_name b.0 (s q) G
-    with_names Wild_pattern q G = G
-    with_names (Tuple_pattern ps) q G = with_all_names ps (1 + q) G
-    with_names (Record_pattern fs ps) q G = with_all_names ps (1 + q) G
-    with_names (Typed_pattern p e) q G = with_names p q G
+    pub with_pattern : FlatPattern → ℕ → Context → Context
+    with_pattern (Bound_pattern b) q G = with_name b.0 (s q) (with_entered (s q) G)
+    with_pattern Wild_pattern q G = with_entered (s q) G
+    with_pattern (Tuple_pattern ps) q G = with_all_patterns ps (1 + q) (with_entered (s q) G)
+    with_pattern (Record_pattern fs ps) q G = with_all_patterns ps (1 + q) (with_entered (s q) G)
+    with_pattern (Typed_pattern p e) q G = with_pattern p q G
 
-    pub with_all_names : Patterns Ref BindId → ℕ → Context → Context
-    with_all_names no_pattern q G = G
-    with_all_names (pattern_and p ps) q G = with_all_names ps (q + pattern_numbers p) (with_names p q G)
-
-  abbrev pub with_pattern : FlatPattern → ℕ → Context → Context
-  with_pattern p q G = with_names p q (with_entered (s q) G)
+    pub with_all_patterns : Patterns Ref BindId → ℕ → Context → Context
+    with_all_patterns no_pattern q G = G
+    with_all_patterns (pattern_and p ps) q G = with_all_patterns ps (q + pattern_numbers p) (with_pattern p q G)

@@ -1,6 +1,9 @@
 pub mod EachLaws
 pub mod ArgumentForms
 pub mod ApplyLaws
+pub mod SharingForms
+pub mod FormedLaws
+pub mod SeeingForms
 pub mod WayLaws
 pub mod FunctionLaws
 pub mod ComposedForms

@@ -1,5 +1,5 @@
 -- The nodes within an application, one after another.
-use Rattle.std.proofs.Common.{◌≡◌, ℕ, ◌+◌, ◌<◌, ◌≤◌, Bool, true, List, [], ◌∷◌, length, get_or, drop, Result, Ok, Err, refl, sym, ap, ◌∙◌, subst, add-one, arith}
+use Rattle.std.proofs.Common.{◌≡◌, ℕ, ◌+◌, ◌<◌, ◌≤◌, Bool, true, List, [], ◌∷◌, length, get_or, drop, Option, Some, None, Result, Ok, Err, refl, sym, ap, ◌∙◌, subst, add-one, arith}
 use Rattle.std.proofs.Math.ListN.{drop_of_length-le}
 use Rattle.std.proofs.Math.Seq.{drop-cons}
 use Rattle.std.specs.Borrow.{Bor}
@@ -13,7 +13,7 @@ use Rattle.fut_sizes.specs.Functions.{closed, quantified}
 use Rattle.fut_sizes.specs.Matching as matching
 use Rattle.fut_sizes.specs.Matching.{read}
 use Rattle.fut_sizes.specs.Sizing.{all_noted, met_noted}
-use Rattle.fut_sizes.specs.Steps.{State, Done, Step, note, and_then}
+use Rattle.fut_sizes.specs.Steps.{State, Done, note, and_then}
 use Rattle.size_arena.specs.declared.agreeing.SizeErr.{SizeErr}
 use Rattle.size_arena.specs.declared.trees.SizeTree.{SizeTree}
 use Rattle.size_arena.specs.Trees.{size_of}
@@ -25,73 +25,107 @@ use Rattle.size_program.specs.Answers.{Runs, runs, refused, no_memory_left, Step
 use Rattle.size_program.proofs.StepLaws.{Ran, ran, ran_not, steps_then, steps_stop, stopped, weaker}
 use Rattle.size_applying.specs.declared.arguments.Later as laters
 use Rattle.size_applying.specs.declared.going.Application.{Application}
+use Rattle.size_applying.specs.declared.seeing.Seen.{Seen}
 use Rattle.size_applying.specs.Going.{Is_met}
-use Rattle.size_applying.specs.Wanted.{later_of, laters_of}
+use Rattle.size_applying.specs.Sharing.{Chain, Chained, any_last, Sees, Leads_on, found_later, Has_seen, noted_size}
+use Rattle.size_applying.specs.Wanted.{later_size, laters_of}
+use Rattle.size_applying.proofs.SharingForms.{chained_behind}
 
 abbrev pub Noted : Type 0
 Noted = Result (Unit {0}) SizeErr
 
--- a sized type that is noted, by another name, and what a table has met before
-pub noted_so : (H : Type 0) (n : ℕ) (t u : Size) (f g : Tables) (r : Noted) → H → t ≡ u → Steps (λ (z : Unit {0}) (y : Size). y ≡ t) (note n t) f g r → Steps (λ (z : Unit {0}) (y : Size). H) (note n u) f g r
-noted_so H n t u f g r h is first = subst (λ z. Steps (λ (z : Unit {0}) (y : Size). H) (note n z) f g r) is (record { steps = λ s stands. by_runs (note n t s) (first.steps s stands) })
+-- a sized type that is noted, by another name, and what is known besides
+pub noted_so : {A : Type 0} (x : A) (H : A → Type 0) (n : ℕ) (t u : Size) (f g : Tables) (r : Noted) → r ≡ Ok tt → H x → t ≡ u → Steps (λ (z : Unit {0}) (y : Size). y ≡ t) (note n t) f g r → Steps (λ (z : A) (y : Size). H z) (note n u) f g (Ok x)
+noted_so {A = A} x H n t u f g r done h is first = subst (λ z. Steps (λ (z : A) (y : Size). H z) (note n z) f g (Ok x)) is (record { steps = λ s stands. by_runs (note n t s) (first.steps s stands) done })
   where
-    by_runs : (a : Answer (Done Size)) {r : Noted} → Runs (λ (z : Unit {0}) (y : Size). y ≡ t) a g r → Runs (λ (z : Unit {0}) (y : Size). H) a g r
-    by_runs a (runs s p related stands) = runs s p h stands
-    by_runs a (refused p) = refused p
-    by_runs a no_memory_left = no_memory_left
+    by_runs : (a : Answer (Done Size)) {r : Noted} → Runs (λ (z : Unit {0}) (y : Size). y ≡ t) a g r → r ≡ Ok tt → Runs (λ (z : A) (y : Size). H z) a g (Ok x)
+    by_runs a (runs s p related stands) e = runs s p h stands
+    by_runs a (refused p) e = cc
+    by_runs a no_memory_left e = cc
 
--- the nodes from one on are left
-pub record Noted_far (N : Names) (types : Sub) (answer : Answer (Done (Unit {0}))) (g : Tables) (table : Found) (left : List Later) : Type 0 where
+pub noted_not : {A : Type 0} (H : A → Type 0) (n : ℕ) (t u : Size) (f g : Tables) (r : Noted) (e : SizeErr) → r ≡ Err e → t ≡ u → Steps (λ (z : Unit {0}) (y : Size). y ≡ t) (note n t) f g r → Steps (λ (z : A) (y : Size). H z) (note n u) f g (Err e)
+noted_not {A = A} H n t u f g r e stop is first = subst (λ z. Steps (λ (z : A) (y : Size). H z) (note n z) f g (Err e)) is (stopped (λ (z : Unit {0}) (y : Size). y ≡ t) (λ (z : A) (y : Size). H z) (note n t) f g r e stop first)
+
+-- what was seen last is of the node before those that are left
+abbrev pub Kept : Option Seen → matching.Found → List laters.Later → Type 0
+Kept None σ left = Chained left any_last
+Kept (Some s) σ left = (l : laters.Later) × Sees s σ (later_size l) × Chain l left any_last
+
+leads_now : (last : Option Seen) (σ : matching.Found) (m : laters.Later) (ls : List laters.Later) → Kept last σ (m ∷ ls) → Leads_on last m σ
+leads_now None σ m ls k = tt
+leads_now (Some s) σ m ls k = (k.0, k.1, k.2.0)
+
+kept_next : (last : Option Seen) (σ τ : matching.Found) (m : laters.Later) (ls : List laters.Later) (s : Seen) → Kept last σ (m ∷ ls) → Sees s τ (later_size m) → Kept (Some s) τ ls
+kept_next None σ τ m ls s k sees = (m, sees, k)
+kept_next (Some b) σ τ m ls s k sees = (m, sees, k.2.1)
+
+-- these nodes are left
+pub record Noted_far (N : Names) (types : Sub) (answer : Answer (Done (Unit {0}))) (g : Tables) (table : Found) (last : Option Seen) (left : List laters.Later) : Type 0 where
   pub found : matching.Found
   pub state : State
   pub holds : Holds table found
   pub stands : Stands g state
-  pub same : answer ≡ all_noted N types left found state
+  pub kept : Kept last found left
+  pub same : answer ≡ all_noted N types (laters_of left) found state
 
-abbrev pub So_noted : List laters.Later → Found → Tables → Found → Tables → ℕ → Type 0
-So_noted ls before f table g i = (N : Names) (types : Sub) (σ : matching.Found) → Holds before σ → (s : State) → Stands f s → Noted_far N types (all_noted N types (laters_of ls) σ s) g table (laters_of (drop i ls))
+abbrev pub So_noted : List laters.Later → Found → Tables → Found → Tables → Option Seen → ℕ → Type 0
+So_noted ls before f table g last i = (N : Names) (types : Sub) (σ : matching.Found) → Holds before σ → Chained ls any_last → (s : State) → Stands f s → Noted_far N types (all_noted N types (laters_of ls) σ s) g table last (drop i ls)
+
+pub noted_start : (ls : List laters.Later) (before : Found) (f : Tables) → So_noted ls before f before f None 0
+noted_start ls before f N types σ holds chained s stands = record { found = σ; state = s; holds = holds; stands = stands; kept = chained; same = refl }
 
 -- what is known of one node
-abbrev pub Noting : laters.Later → Found → Tables → Found → Tables → Noted → Type 0
-Noting l before f after g r = (σ : matching.Found) → Holds before σ → Steps (λ (z : Unit {0}) (y : Size). Holds after (all_settled (size_of l.size.now) σ)) (note l.node (quantified (all_settled (size_of l.size.now) σ).maker (read (all_settled (size_of l.size.now) σ) (size_of l.size.now)))) f g r
+abbrev pub Noting : Option Seen → laters.Later → Found → Tables → Found → Tables → Result Seen SizeErr → Type 0
+Noting last l before f after g r = (σ : matching.Found) → Holds before σ → Leads_on last l σ → Steps (λ (z : Seen) (y : Size). Has_seen after l σ z) (note l.node (noted_size l σ)) f g r
 
-module _ (ls : List laters.Later) (before table after : Found) (f g h : Tables) (i : ℕ) (so_far : So_noted ls before f table g i) (x : laters.Later) (k : Noted) (l : i < length ls) (noting : Noting (get_or ls i x) table g after h k) where
-  left_is : laters_of (drop i ls) ≡ later_of (get_or ls i x) ∷ laters_of (drop (i + 1) ls)
-  left_is = ap laters_of (drop-cons ls i x l) ∙ ap (λ z. later_of (get_or ls i x) ∷ laters_of (drop z ls)) (sym (add-one i))
+module _ (ls : List laters.Later) (before table after : Found) (f g h : Tables) (last : Option Seen) (i : ℕ) (so_far : So_noted ls before f table g last i) (x : laters.Later) (k : Result Seen SizeErr) (l : i < length ls) (noting : Noting last (get_or ls i x) table g after h k) where
+  abbrev this : laters.Later
+  this = get_or ls i x
 
-  abbrev one_step : (σ : matching.Found) → Step Size
-  one_step σ = note (get_or ls i x).node (quantified (all_settled (size_of (get_or ls i x).size.now) σ).maker (read (all_settled (size_of (get_or ls i x).size.now) σ) (size_of (get_or ls i x).size.now)))
+  abbrev rest : List laters.Later
+  rest = drop (i + 1) ls
 
-  one_same : (N : Names) (types : Sub) (answer : Answer (Done (Unit {0}))) (far : Noted_far N types answer g table (laters_of (drop i ls)))
-      → answer ≡ then_do (one_step far.found far.state) (λ d. all_noted N types (laters_of (drop (i + 1) ls)) (all_settled (size_of (get_or ls i x).size.now) far.found) d.state)
-  one_same N types answer far = far.same ∙ ap (λ z. all_noted N types z far.found far.state) left_is
+  left_is : drop i ls ≡ this ∷ rest
+  left_is = drop-cons ls i x l ∙ ap (λ z. this ∷ drop z ls) (sym (add-one i))
 
-  pub noted_more : k ≡ Ok tt → So_noted ls before f after h (i + 1)
-  noted_more done N types σ holds s stands =
-      let far : Noted_far N types (all_noted N types (laters_of ls) σ s) g table (laters_of (drop i ls)) = so_far N types σ holds s stands in
-      let d : Ran (λ (z : Unit {0}) (y : Size). Holds after (all_settled (size_of (get_or ls i x).size.now) far.found)) (one_step far.found far.state) h k ((noting far.found far.holds).steps far.state far.stands) tt
-      = ran (λ (z : Unit {0}) (y : Size). Holds after (all_settled (size_of (get_or ls i x).size.now) far.found)) (one_step far.found far.state) h k ((noting far.found far.holds).steps far.state far.stands) tt done in
-      record {
-        found = all_settled (size_of (get_or ls i x).size.now) far.found;
-        state = d.state;
-        holds = d.related;
-        stands = d.stands;
-        same = one_same N types (all_noted N types (laters_of ls) σ s) far ∙ ap (λ z. then_do z (λ d. all_noted N types (laters_of (drop (i + 1) ls)) (all_settled (size_of (get_or ls i x).size.now) far.found) d.state)) d.is;
-      }
+  module _ (N : Names) (types : Sub) (answer : Answer (Done (Unit {0}))) (far : Noted_far N types answer g table last (drop i ls)) where
+    kept_here : Kept last far.found (this ∷ rest)
+    kept_here = subst (Kept last far.found) left_is far.kept
 
-  pub noted_stop : (e : SizeErr) → k ≡ Err e → (N : Names) (types : Sub) (σ : matching.Found) → Holds before σ → Steps (λ (u : Unit {0}) (y : Unit {0}). y ≡ u) (all_noted N types (laters_of ls) σ) f h (Err e)
-  noted_stop e is N types σ holds = record {
-    steps = λ s stands.
-        let far : Noted_far N types (all_noted N types (laters_of ls) σ s) g table (laters_of (drop i ls)) = so_far N types σ holds s stands in
-        subst (λ z. Runs (λ (u : Unit {0}) (y : Unit {0}). y ≡ u) z h (Err e)) (sym (one_same N types (all_noted N types (laters_of ls) σ s) far))
-        (ran_not (λ (z : Unit {0}) (y : Size). Holds after (all_settled (size_of (get_or ls i x).size.now) far.found)) (one_step far.found far.state) h k ((noting far.found far.holds).steps far.state far.stands) (λ (u : Unit {0}) (y : Unit {0}). y ≡ u)
-        (λ d. all_noted N types (laters_of (drop (i + 1) ls)) (all_settled (size_of (get_or ls i x).size.now) far.found) d.state) h e is);
-  }
+    one_runs : Runs (λ (z : Seen) (y : Size). Has_seen after this far.found z) (note this.node (noted_size this far.found) far.state) h k
+    one_runs = (noting far.found far.holds (leads_now last far.found this rest kept_here)).steps far.state far.stands
 
-pub noted_end : (ls : List laters.Later) (before table : Found) (f g : Tables) (i : ℕ) → So_noted ls before f table g i → length ls ≤ i → (N : Names) (types : Sub) (σ : matching.Found) → Holds before σ → Steps (λ (u : Unit {0}) (y : Unit {0}). y ≡ u) (all_noted N types (laters_of ls) σ) f g (Ok tt)
-noted_end ls before table f g i so_far l N types σ holds = record {
+    one_same : answer ≡ then_do (note this.node (noted_size this far.found) far.state) (λ d. all_noted N types (laters_of rest) (found_later this far.found) d.state)
+    one_same = far.same ∙ ap (λ z. all_noted N types (laters_of z) far.found far.state) left_is
+
+    next_far : (s : Seen) → k ≡ Ok s → Noted_far N types answer h after (Some s) rest
+    next_far s done =
+        let d : Ran (λ (z : Seen) (y : Size). Has_seen after this far.found z) (note this.node (noted_size this far.found) far.state) h k one_runs s
+        = ran (λ (z : Seen) (y : Size). Has_seen after this far.found z) (note this.node (noted_size this far.found) far.state) h k one_runs s done in
+        record {
+          found = found_later this far.found;
+          state = d.state;
+          holds = d.related.0;
+          stands = d.stands;
+          kept = kept_next last far.found (found_later this far.found) this rest s kept_here d.related.1;
+          same = one_same ∙ ap (λ z. then_do z (λ d. all_noted N types (laters_of rest) (found_later this far.found) d.state)) d.is;
+        }
+
+    no_next : (e : SizeErr) → k ≡ Err e → Runs (λ (u : Unit {0}) (y : Unit {0}). y ≡ u) answer h (Err e)
+    no_next e is = subst (λ z. Runs (λ (u : Unit {0}) (y : Unit {0}). y ≡ u) z h (Err e)) (sym one_same)
+        (ran_not (λ (z : Seen) (y : Size). Has_seen after this far.found z) (note this.node (noted_size this far.found) far.state) h k one_runs (λ (u : Unit {0}) (y : Unit {0}). y ≡ u)
+        (λ d. all_noted N types (laters_of rest) (found_later this far.found) d.state) h e is)
+
+  pub noted_more : (s : Seen) → k ≡ Ok s → So_noted ls before f after h (Some s) (i + 1)
+  noted_more s done N types σ holds chained state stands = next_far N types (all_noted N types (laters_of ls) σ state) (so_far N types σ holds chained state stands) s done
+
+  pub noted_stop : (e : SizeErr) → k ≡ Err e → (N : Names) (types : Sub) (σ : matching.Found) → Holds before σ → Chained ls any_last → Steps (λ (u : Unit {0}) (y : Unit {0}). y ≡ u) (all_noted N types (laters_of ls) σ) f h (Err e)
+  noted_stop e is N types σ holds chained = record { steps = λ s stands. no_next N types (all_noted N types (laters_of ls) σ s) (so_far N types σ holds chained s stands) e is }
+
+pub noted_end : (ls : List laters.Later) (before table : Found) (f g : Tables) (last : Option Seen) (i : ℕ) → So_noted ls before f table g last i → length ls ≤ i → (N : Names) (types : Sub) (σ : matching.Found) → Holds before σ → Chained ls any_last → Steps (λ (u : Unit {0}) (y : Unit {0}). y ≡ u) (all_noted N types (laters_of ls) σ) f g (Ok tt)
+noted_end ls before table f g last i so_far l N types σ holds chained = record {
   steps = λ s stands.
-      let far : Noted_far N types (all_noted N types (laters_of ls) σ s) g table (laters_of (drop i ls)) = so_far N types σ holds s stands in
+      let far : Noted_far N types (all_noted N types (laters_of ls) σ s) g table last (drop i ls) = so_far N types σ holds chained s stands in
       runs far.state (far.same ∙ ap (λ z. all_noted N types (laters_of z) far.found far.state) (drop_of_length-le ls l)) refl far.stands;
 }
 
@@ -122,6 +156,9 @@ closed_goes_on n t u is = is
 
 -- ---- what an application is over with
 
+pub is_chained : (table : Found) (a : Application) (m : Met) → Is_met table a m → (ls : List laters.Later) → ls ≡ a.later → Chained ls any_last
+is_chained table a m is ls e = subst (λ z. Chained z any_last) (sym e) is.chained
+
 module _ (N : Names) (types : Sub) (n : ℕ) (table : Found) (a : Application) (f g : Tables) (r : Result (Bor SizeTree) SizeErr) (m : Met) (is : Is_met table a m) where
   met_by : (ls ks : List Later) → ls ≡ ks → Steps (λ (t : Bor SizeTree) (y : Size). y ≡ size_of t.now) (met_noted N types n (record { size = size_of a.gives.size.now; found = m.found; later = ls; goes_on = a.gives.goes_on })) f g r
       → Steps (λ (t : Bor SizeTree) (y : Size). y ≡ size_of t.now) (met_noted N types n (record { size = m.size; found = m.found; later = ks; goes_on = m.goes_on })) f g r
@@ -139,14 +176,32 @@ module _ (N : Names) (types : Sub) (n : ℕ) (table : Found) (a : Application) (
 
 -- ---- but the first two
 
-pub few : (ls ks : List laters.Later) → length ls < 2 → ks ≡ drop (length ls) ls → laters_of ks ≡ without_two (laters_of ls)
-few [] ks l e = ap laters_of e
-few (x ∷ []) ks l e = ap laters_of e
+abbrev pub But_two : List laters.Later → List laters.Later → Type 0
+But_two ls ks = (laters_of ks ≡ without_two (laters_of ls)) × (Chained ls any_last → Chained ks any_last)
+
+none_but : (ls ks : List laters.Later) → ks ≡ drop (length ls) ls → Chained ks any_last
+none_but ls ks e = subst (λ z. Chained z any_last) (sym (e ∙ drop_of_length-le ls (omega arith))) tt
+
+few : (ls ks : List laters.Later) → length ls < 2 → ks ≡ drop (length ls) ls → But_two ls ks
+few [] ks l e = (ap laters_of e, λ c. none_but [] ks e)
+few (x ∷ []) ks l e = (ap laters_of e, λ c. none_but (x ∷ []) ks e)
 few (x ∷ y ∷ ls) ks l e = absurd (omega (arith, l))
 
-pub fewer_by : (ls ks : List laters.Later) → 2 ≤ length ls → ks ≡ drop 2 ls → laters_of ks ≡ without_two (laters_of ls)
-fewer_by [] ks l e = absurd (omega (arith, l))
-fewer_by (x ∷ []) ks l e = absurd (omega (arith, l))
-fewer_by (x ∷ y ∷ ls) ks l e = ap laters_of e
+many : (ls ks : List laters.Later) → 2 ≤ length ls → ks ≡ drop 2 ls → But_two ls ks
+many [] ks l e = absurd (omega (arith, l))
+many (x ∷ []) ks l e = absurd (omega (arith, l))
+many (x ∷ y ∷ ls) ks l e = (ap laters_of e, λ c. subst (λ z. Chained z any_last) (sym e) (chained_behind any_last y ls (chained_behind any_last x (y ∷ ls) c)))
 
-pub ruleset fewer = (few, fewer_by)
+pub few_told : (ls ks : List laters.Later) → length ls < 2 → ks ≡ drop (length ls) ls → laters_of ks ≡ without_two (laters_of ls)
+few_told ls ks l e = (few ls ks l e).0
+
+pub many_told : (ls ks : List laters.Later) → 2 ≤ length ls → ks ≡ drop 2 ls → laters_of ks ≡ without_two (laters_of ls)
+many_told ls ks l e = (many ls ks l e).0
+
+pub few_chained : (ls ks : List laters.Later) → length ls < 2 → ks ≡ drop (length ls) ls → Chained ls any_last → Chained ks any_last
+few_chained ls ks l e = (few ls ks l e).1
+
+pub many_chained : (ls ks : List laters.Later) → 2 ≤ length ls → ks ≡ drop 2 ls → Chained ls any_last → Chained ks any_last
+many_chained ls ks l e = (many ls ks l e).1
+
+pub ruleset fewer = (few_told, many_told, few_chained, many_chained)

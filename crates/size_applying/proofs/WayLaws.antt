@@ -22,14 +22,19 @@ use Rattle.size_applying.specs.declared.arguments.Argument as arguments
 use Rattle.size_applying.specs.declared.arguments.Wanting as wantings
 use Rattle.size_applying.specs.declared.going.Application.{Application}
 use Rattle.size_applying.specs.Wanted.{Are_arguments, All_want, Is_argument}
-use Rattle.size_applying.specs.Going.{Goes, Takes_arrow, arrow_taken, no_arrow_left, Is_met}
+use Rattle.size_applying.specs.Going.{Goes, Takes_arrow, arrow_taken, gives_last, no_arrow_left, Is_met}
 use Rattle.size_applying.specs.Going as going
+use Rattle.size_applying.specs.Sharing.{Chained, any_last}
+use Rattle.size_applying.proofs.SharingForms.{chained_with}
 use Rattle.size_applying.proofs.EachLaws.{First, each_first, each_none, each_length}
 use Rattle.size_applying.proofs.ApplyLaws.{wanting_at, arrow_law, again_law, over_law, again_stop, end_law, end_stop}
 
 -- what a matched table is to a substitution
 abbrev pub matched_by : Found → Unit {0} → matching.Found → Type 0
 matched_by table u σ = Holds table σ
+
+any_chained : (a : Application) → Chained a.later (gives_last a) → Chained a.later any_last
+any_chained a c = chained_with (gives_last a) any_last a.later (λ l h. tt) c
 
 never_ok : (u : Unit {0}) (x : SizeErr) → ok_in (Unit {0}) SizeErr u ≡ Err x → ⊥
 never_ok u x e = cc
@@ -212,7 +217,7 @@ module _ (N : Names) (types : Sub) (n : ℕ) (regular : Bool) where
               → all_matched regular ws σ u ≡ Ok (record { result = τ; state = v }) → Stands h v → {i : Result Bool NoMemory} → Takes_arrow N types m c [] none_opened false (read τ (in_opened φ t)) (ls ++ uses ws) τ new last i → i ≡ Ok false → Runs (Is_met last) (whole s) h (Ok new)
           over_by s c cs ws φ goes_on t ls σ τ u v same plain p stands (arrow_taken e goes holds) is = cc
           over_by s c cs ws φ goes_on t ls σ τ u v same plain p stands (no_arrow_left e goes holds) is =
-              runs v (same ∙ over_law n regular c cs ws φ goes_on ls σ u (record { result = τ; state = v }) p t plain e) (record { size = goes.gives; found = holds; later = goes.later; goes_on = goes.last }) stands
+              runs v (same ∙ over_law n regular c cs ws φ goes_on ls σ u (record { result = τ; state = v }) p t plain e) (record { size = goes.gives; found = holds; later = goes.later; goes_on = goes.last; chained = any_chained new goes.chained }) stands
           over_by s c cs ws φ goes_on t ls σ τ u v same plain p stands going.no_memory_left is = cc
 
           pub way_over : i ≡ Ok false → Steps (Is_met last) whole f h (Ok new)
@@ -248,7 +253,7 @@ module _ (N : Names) (types : Sub) (n : ℕ) (regular : Bool) where
           let r : Far (whole s) g a before left = way s stands in
           let d : Ran (matched_by met) (all_matched regular r.ws r.found r.state) h j (end_runs s stands) tt = ran (matched_by met) (all_matched regular r.ws r.found r.state) h j (end_runs s stands) tt done in
           let goes : Goes N types new [] none_opened r.goes_on (read d.result (in_opened r.opened r.gives)) (r.later ++ uses r.ws) = concluded r.ws r.opened r.goes_on r.gives r.later d.result r.goes d.related in
-          runs d.state (end_same s r ∙ end_law n regular r.ws r.opened r.goes_on r.gives r.later r.found r.state (record { result = d.result; state = d.state }) d.is) (record { size = goes.gives; found = d.related; later = goes.later; goes_on = goes.last }) d.stands;
+          runs d.state (end_same s r ∙ end_law n regular r.ws r.opened r.goes_on r.gives r.later r.found r.state (record { result = d.result; state = d.state }) d.is) (record { size = goes.gives; found = d.related; later = goes.later; goes_on = goes.last; chained = any_chained new goes.chained }) d.stands;
     }
 
     pub way_end_stop : {C : Type 0} (Q : C → Met → Type 0) (e : SizeErr) → j ≡ Err e → Steps Q whole f h (Err e)

@@ -12,8 +12,14 @@ use Rattle.size_slots.specs.declared.slots.Found.{Found}
 use Rattle.size_slots.specs.Held.{Holds}
 use Rattle.size_arena.specs.Frames.{opened_of}
 use Rattle.size_arena.specs.Trees.{size_of}
+use Rattle.size_applying.specs.declared.arguments.Later as laters
 use Rattle.size_applying.specs.declared.going.Application.{Application}
+use Rattle.size_applying.specs.Sharing.{Leads, Chained, any_last}
 use Rattle.size_applying.specs.Wanted.{All_want, laters_of}
+
+-- what an application gives stands behind the arrow of its last node, where it follows that
+abbrev pub gives_last : Application → laters.Later → Type 0
+gives_last a l = a.gives.follows ≡ true → Leads l (opened_of a.gives.frames.now) (size_of a.gives.size.now)
 
 -- what it wants since all was matched last, the frames around what it gives, whether it goes on, what it gives, and what is
 -- sized later
@@ -23,6 +29,8 @@ pub record Goes (N : Names) (types : Sub) (a : Application) (ws : List Wanting) 
   pub last : a.gives.goes_on ≡ goes_on
   pub gives : size_of a.gives.size.now ≡ t
   pub later : laters_of a.later ≡ ls
+  pub levels : a.gives.levels ≡ levels_within t
+  pub chained : Chained a.later (gives_last a)
 
 -- an argument of the application at n goes along an arrow of what the application gives, if that is a function type
 pub data Takes_arrow (N : Names) (types : Sub) (n : ℕ) (a : Argument) (ws : List Wanting) (φ : Opened) (goes_on : Bool) (t : Size) (ls : List Later) (σ : matching.Found) (new : Application) (table : Found) : Result Bool NoMemory → Type 0 where
@@ -37,4 +45,5 @@ pub record Is_met (table : Found) (a : Application) (m : Met) : Type 0 where
   pub size : size_of a.gives.size.now ≡ m.size
   pub found : Holds table m.found
   pub later : laters_of a.later ≡ m.later
+  pub chained : Chained a.later any_last
   pub goes_on : a.gives.goes_on ≡ m.goes_on

@@ -1,3 +1,4 @@
 pub mod Wanted
+pub mod Sharing
 pub mod Going
 pub mod Composed

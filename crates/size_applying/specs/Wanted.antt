@@ -5,7 +5,7 @@ use Rattle.fut_flat.specs.declared.exp.Exp.{Exp}
 use Rattle.fut_flat.specs.Erased.{term_of}
 use Rattle.fut_types.specs.Types.{Sub}
 use Rattle.fut_typing.specs.Names.{Names}
-use Rattle.sized_types.specs.Sizes.{Free}
+use Rattle.sized_types.specs.Sizes.{Free, Size}
 use Rattle.fut_sizes.specs.Agreeing.{Answer}
 use Rattle.fut_sizes.specs.Applications.{Argument, Early, Late, Later, Met, Part, Applied, Waiting, Want, Wanting, is_function}
 use Rattle.fut_sizes.specs.Matching.{Found, data_way, function_way, made_at, meet, none_opened, in_opened, read}
@@ -75,8 +75,12 @@ pub record Wants (N : Names) (types : Sub) (c : wantings.Wanting) (w : Wanting) 
 abbrev pub All_want : Names → Sub → List wantings.Wanting → List Wanting → Type 0
 All_want N types = Each (Wants N types)
 
+-- the sized type of a node, in the frames of the function types around it
+abbrev pub later_size : laters.Later → Size
+later_size l = in_opened (opened_of l.frames.now) (size_of l.size.now)
+
 abbrev pub later_of : laters.Later → Later
-later_of l = record { node = l.node; size = size_of l.size.now }
+later_of l = record { node = l.node; size = later_size l }
 
 abbrev pub laters_of : List laters.Later → List Later
 laters_of = map later_of

@@ -64,11 +64,14 @@ pub struct Wanting<'a> {
     pub wanted: &'a SizeTree<'a>,
 }
 
-/// A node whose sized type is known once all is matched.
+/// A node whose sized type, in the frames of the function types around it, is known once all is matched.
 #[derive(Clone, Copy)]
 pub struct Later<'a> {
     pub node: u32,
+    pub frames: &'a Frames<'a>,
     pub size: &'a SizeTree<'a>,
+    /// Whether it is what the node before gives: of a function type, what stands behind it.
+    pub follows: bool,
 }
 
 #[tactic(auto, using(crate::proofs::ArgumentForms::types))]

@@ -1,5 +1,5 @@
 // An application goes along the arrows of its function.
-ghost use Rattle.std.specs.Prelude.{◌≡◌, Bool, List as Items, [], ◌∷◌, ◌++◌, ◌+◌, IfOk, false, suc, true};
+ghost use Rattle.std.specs.Prelude.{◌≡◌, ℕ, Bool, List as Items, [], ◌∷◌, ◌++◌, ◌+◌, IfOk, false, suc, true};
 ghost use Rattle.fut_types.specs.Types.{Sub};
 ghost use Rattle.fut_typing.specs.Names.{Names};
 ghost use Rattle.sized_types.specs.Sizes.{Size};
@@ -11,12 +11,13 @@ ghost use Rattle.size_arena.specs.Trees.{size_of};
 ghost use Rattle.size_slots.specs.Held.{Held, Holds};
 ghost use Rattle.size_applying.specs.Wanted.{All_want, Is_argument, Wants, early_value, laters_of};
 ghost use Rattle.size_applying.specs.Going.{Goes, Takes_arrow};
+ghost use Rattle.size_applying.specs.Sharing.{Chained, any_last};
 
 use crate::arguments::{Argument, Later, Wanting, is_arrow};
 use crate::matching::opened_read;
 use bumpalo::Bump;
 use fut_scalar::{List, NoMemory};
-use size_arena::{Change, Frame, Frames, Free, SizeTree, changed, past_within};
+use size_arena::{Frame, Frames, Free, SizeTree, past_within};
 use size_slots::{Found, made_at};
 use std::alloc::Global;
 
@@ -27,6 +28,10 @@ pub struct Giving<'a> {
     pub size: &'a SizeTree<'a>,
     /// Whether what is still open is chosen again: the arrow that was taken last is not the function's last.
     pub goes_on: bool,
+    /// Whether it stands behind the arrow of the last node that is noted later.
+    pub follows: bool,
+    /// How many levels it has, also inside of functions.
+    pub levels: u32,
 }
 
 /// How far an application is: what it wants of the arguments since all was matched last, and what it gives to the others.
@@ -57,12 +62,15 @@ pub fn begin<'a>(
     ensures { (N : Names) (types : Sub) → IfOk result (λ made. Goes N types made [] none_opened true (size_of size.now) []) }
 {
     let frames = closed(bump)?;
+    let levels = past_within(size, 0)?;
     Ok(Application {
         wantings: List::new(alloc),
         gives: Giving {
             frames,
             size,
             goes_on: true,
+            follows: false,
+            levels,
         },
         later: List::new(alloc),
     })
@@ -116,13 +124,24 @@ fn inside<'a>(
     }
 }
 
-/// The numbers of a function's positions are taken, which its application at a node makes.
-fn count(node: u32, table: &mut Found<'_>, chosen: u32, to: &SizeTree<'_>) -> Result<(), NoMemory>
-    ensures { (σ : Finding) → Holds table.old σ → IfOk result (λ u. Holds table.new (counted (suc chosen + levels_within (size_of to.now)) (made_at node σ))) }
+/// How many levels are left of a function type's, so many, behind its parameter.
+fn levels_behind(levels: u32, from: &SizeTree<'_>) -> Result<u32, NoMemory>
+    ensures { (rest : ℕ) → levels ≡ levels_within (size_of from.now) + rest → IfOk result (λ left. left ≡ rest) }
+{
+    let taken = past_within(from, 0)?;
+    match levels.checked_sub(taken) {
+        Some(left) => Ok(left),
+        None => Err(NoMemory),
+    }
+}
+
+/// The numbers of a function's positions are taken, which its application at a node makes: what it gives has so many levels.
+fn count(node: u32, table: &mut Found<'_>, chosen: u32, levels: u32) -> Result<(), NoMemory>
+    ensures { (σ : Finding) → Holds table.old σ → IfOk result (λ u. Holds table.new (counted (suc chosen + levels) (made_at node σ))) }
 {
     let value = behind(table.next, chosen as usize)?;
     let met = behind(value, 1)?;
-    let next = past_within(to, met)?;
+    let next = behind(met, levels as usize)?;
     made_at(table, node)?;
     table.next = next;
     Ok(())
@@ -141,25 +160,15 @@ fn go_along<'a>(
 ) -> Result<(), NoMemory>
     ensures frames { IfOk result (λ u. opened_of application.new.gives.frames.now ≡ inside (applied_at node table.old.next chosen (early_value argument.now)) (opened_of application.old.gives.frames.now)) }
     ensures wants { IfOk result (λ u. application.new.wantings ≡ application.old.wantings ++ record { node = node; argument = argument.now; frames = application.new.gives.frames; wanted = from.entry } ∷ []) }
-    ensures later { IfOk result (λ u. laters_of application.new.later ≡ laters_of application.old.later ++ record { node = suc node; size = in_opened (opened_of application.old.gives.frames.now) (size_of application.old.gives.size.now) } ∷ []) }
+    ensures later { IfOk result (λ u. application.new.later ≡ application.old.later ++ record { node = suc node; frames = application.old.gives.frames; size = application.old.gives.size; follows = application.old.gives.follows } ∷ []) }
     ensures gives { IfOk result (λ u. application.new.gives.size ≡ to.entry) }
     ensures goes_on { IfOk result (λ u. application.new.gives.goes_on ≡ is_arrow (size_of to.now)) }
-    ensures counted { (σ : Finding) → Holds table.old σ → IfOk result (λ u. Holds table.new (counted (suc chosen + levels_within (size_of to.now)) (made_at node σ))) }
+    ensures levels { (rest : ℕ) → application.old.gives.levels ≡ levels_within (size_of from.now) + rest → IfOk result (λ u. application.new.gives.levels ≡ rest) }
+    ensures counted { (σ : Finding) → Holds table.old σ → IfOk result (λ u. Holds table.new (counted (suc chosen + application.new.gives.levels) (made_at node σ))) }
 {
-    let frames = inside(
-        node,
-        table.next,
-        chosen,
-        argument,
-        application.gives.frames,
-        bump,
-    )?;
-    let size = changed(
-        application.gives.size,
-        &Change::Open(application.gives.frames),
-        0,
-        bump,
-    )?;
+    let before = application.gives;
+    let frames = inside(node, table.next, chosen, argument, before.frames, bump)?;
+    let levels = levels_behind(before.levels, from)?;
     let number = behind(node, 1)?;
     application.wantings.push(Wanting {
         node,
@@ -167,12 +176,19 @@ fn go_along<'a>(
         frames,
         wanted: from,
     })?;
-    application.later.push(Later { node: number, size })?;
-    count(node, table, chosen, to)?;
+    application.later.push(Later {
+        node: number,
+        frames: before.frames,
+        size: before.size,
+        follows: before.follows,
+    })?;
+    count(node, table, chosen, levels)?;
     application.gives = Giving {
         frames,
         size: to,
         goes_on: is_arrow(to),
+        follows: true,
+        levels,
     };
     Ok(())
 }
@@ -229,6 +245,8 @@ pub fn take_again<'a>(
                 frames: application.gives.frames,
                 size: application.gives.size,
                 goes_on: false,
+                follows: application.gives.follows,
+                levels: application.gives.levels,
             };
             take_arrow(node, argument, application, table, bump)
         }
@@ -237,35 +255,33 @@ pub fn take_again<'a>(
 }
 
 /// The use of a name that is an argument has the sized type that is wanted of it.
-fn use_later<'a>(
-    wanting: &Wanting<'a>,
-    later: &mut List<Later<'a>>,
-    bump: &'a Bump,
-) -> Result<(), NoMemory>
-    ensures { (N : Names) (types : Sub) (w : TheWanting) → Wants N types wanting.now w → IfOk result (λ u. laters_of later.new ≡ laters_of later.old ++ with_use w.argument w.opened w.wanted []) }
+fn use_later<'a>(wanting: &Wanting<'a>, later: &mut List<Later<'a>>) -> Result<(), NoMemory>
+    ensures later { (N : Names) (types : Sub) (w : TheWanting) → Wants N types wanting.now w → IfOk result (λ u. laters_of later.new ≡ laters_of later.old ++ with_use w.argument w.opened w.wanted []) }
+    ensures chained { Chained later.old any_last → IfOk result (λ u. Chained later.new any_last) }
 {
     match &wanting.argument {
         Argument::Early { node, is_use, .. } => {
             if !*is_use {
                 return Ok(());
             }
-            let size = changed(wanting.wanted, &Change::Open(wanting.frames), 0, bump)?;
-            later.push(Later { node: *node, size })
+            later.push(Later {
+                node: *node,
+                frames: wanting.frames,
+                size: wanting.wanted,
+                follows: false,
+            })
         }
         Argument::Late { .. } => Ok(()),
     }
 }
 
 /// All of them, from left to right.
-fn uses_later<'a>(
-    wantings: &[Wanting<'a>],
-    later: &mut List<Later<'a>>,
-    bump: &'a Bump,
-) -> Result<(), NoMemory>
-    ensures { (N : Names) (types : Sub) (ws : Items TheWanting) → All_want N types wantings.now ws → IfOk result (λ u. laters_of later.new ≡ laters_of later.old ++ uses ws) }
+fn uses_later<'a>(wantings: &[Wanting<'a>], later: &mut List<Later<'a>>) -> Result<(), NoMemory>
+    ensures later { (N : Names) (types : Sub) (ws : Items TheWanting) → All_want N types wantings.now ws → IfOk result (λ u. laters_of later.new ≡ laters_of later.old ++ uses ws) }
+    ensures chained { Chained later.old any_last → IfOk result (λ u. Chained later.new any_last) }
 {
     for wanting in wantings {
-        use_later(wanting, later, bump)?;
+        use_later(wanting, later)?;
     }
     Ok(())
 }
@@ -286,16 +302,15 @@ pub fn conclude<'a>(
         bump,
     )?;
     let frames = closed(bump)?;
-    uses_later(
-        application.wantings.as_slice(),
-        &mut application.later,
-        bump,
-    )?;
+    let levels = past_within(size, 0)?;
+    uses_later(application.wantings.as_slice(), &mut application.later)?;
     application.wantings.truncate(0);
     application.gives = Giving {
         frames,
         size,
         goes_on: application.gives.goes_on,
+        follows: false,
+        levels,
     };
     Ok(())
 }

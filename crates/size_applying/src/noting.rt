@@ -4,7 +4,7 @@ ghost use Rattle.fut_types.specs.Types.{Sub};
 ghost use Rattle.fut_typing.specs.Names.{Names};
 ghost use Rattle.fut_sizes.specs.Applications.{Met as AMet, all_settled};
 ghost use Rattle.fut_sizes.specs.Compositions.{without_two};
-ghost use Rattle.fut_sizes.specs.Functions.{closed, quantified};
+ghost use Rattle.fut_sizes.specs.Functions.{closed};
 ghost use Rattle.fut_sizes.specs.Matching.{Found as Finding, read};
 ghost use Rattle.fut_sizes.specs.Sizing.{all_noted, met_noted};
 ghost use Rattle.fut_sizes.specs.Steps.{and_then, note};
@@ -12,34 +12,19 @@ ghost use Rattle.size_arena.specs.Trees.{size_of};
 ghost use Rattle.size_program.specs.Answers.{Steps};
 ghost use Rattle.size_slots.specs.Held.{Held, Holds};
 ghost use Rattle.size_applying.specs.Going.{Is_met};
+ghost use Rattle.size_applying.specs.Sharing.{Chained, Has_seen, Leads_on, any_last, noted_size};
 ghost use Rattle.size_applying.specs.Wanted.{laters_of};
 
 use crate::arguments::Later;
 use crate::going::Application;
+use crate::seeing::{Last, Seen, noting_of, settled};
 use bumpalo::Bump;
 use fut_scalar::NoMemory;
 use size_arena::{SizeErr, SizeTree};
 use size_program::{Tables, note};
-use size_settling::{closed, settle_all};
-use size_slots::{Found, read};
+use size_settling::closed;
+use size_slots::Found;
 use std::alloc::Global;
-
-/// A sized type once all variables in it that are still open have sizes of their own, read.
-#[tactic(auto, using(size_slots::proofs::TakeLaws::held_falls))]
-fn settled<'a>(
-    size: &'a SizeTree<'a>,
-    table: &mut Found<'a>,
-    bump: &'a Bump,
-) -> Result<&'a SizeTree<'a>, NoMemory>
-    requires { Held table.old }
-    ensures settled { (σ : Finding) → Holds table.old σ → IfOk result (λ made. Holds table.new (all_settled (size_of size.now) σ)) }
-    ensures read { (σ : Finding) → Holds table.old σ → IfOk result (λ made. size_of made.now ≡ read (all_settled (size_of size.now) σ) (size_of size.now)) }
-    ensures held { IfOk result (λ made. Held table.new) }
-{
-    settle_all(size, table, bump)?;
-    let made = read(size, table, bump)?;
-    Ok(made)
-}
 
 /// What a node of an application has once all is matched: what is still open in it is chosen again, where it goes on, or unknown.
 fn closed_size<'a>(
@@ -62,18 +47,22 @@ fn closed_size<'a>(
 /// The sized type of a node within an application is known.
 #[tactic(auto, using(size_program::proofs::StepLaws::out_of_memory))]
 fn note_later<'a>(
+    last: &Last<'a>,
     later: &Later<'a>,
     table: &mut Found<'a>,
     tables: &mut Tables<'a>,
     bump: &'a Bump,
     alloc: Global,
-) -> Result<(), SizeErr>
+) -> Result<Seen<'a>, SizeErr>
     requires { Held table.old }
-    ensures noted { (σ : Finding) → Holds table.old σ → Steps (λ u y. Holds table.new (all_settled (size_of later.now.size.now) σ)) (note later.now.node (quantified (all_settled (size_of later.now.size.now) σ).maker (read (all_settled (size_of later.now.size.now) σ) (size_of later.now.size.now)))) tables.old tables.new result }
-    ensures held { IfOk result (λ u. Held table.new) }
+    ensures noted { (σ : Finding) → Holds table.old σ → Leads_on last.now.seen later.now σ → Steps (λ s y. Has_seen table.new later.now σ s) (note later.now.node (noted_size later.now σ)) tables.old tables.new result }
+    ensures held { IfOk result (λ s. Held table.new) }
 {
-    match closed_size(later.size, true, table, bump, alloc) {
-        Ok(size) => note(tables, later.node, size),
+    match noting_of(last, later, table, bump, alloc) {
+        Ok(noting) => match note(tables, later.node, noting.size) {
+            Ok(()) => Ok(noting.seen),
+            Err(error) => Err(error),
+        },
         Err(_) => Err(SizeErr::Memory),
     }
 }
@@ -81,7 +70,7 @@ fn note_later<'a>(
 /// The sized types of nodes within an application are known.
 ///
 /// `Err`: memory ran out. Then the table is of no account.
-pub fn note_all<'a>(
+fn note_all<'a>(
     later: &[Later<'a>],
     table: &mut Found<'a>,
     tables: &mut Tables<'a>,
@@ -89,11 +78,12 @@ pub fn note_all<'a>(
     alloc: Global,
 ) -> Result<(), SizeErr>
     requires { Held table.old }
-    ensures { (N : Names) (types : Sub) (σ : Finding) → Holds table.old σ → Steps (λ u y. y ≡ u) (all_noted N types (laters_of later.now) σ) tables.old tables.new result }
+    ensures { (N : Names) (types : Sub) (σ : Finding) → Holds table.old σ → Chained later.now any_last → Steps (λ u y. y ≡ u) (all_noted N types (laters_of later.now) σ) tables.old tables.new result }
 {
+    let mut last = Last { seen: None };
     for one in later {
-        match note_later(one, table, tables, bump, alloc) {
-            Ok(()) => {}
+        match note_later(&last, one, table, tables, bump, alloc) {
+            Ok(seen) => last = Last { seen: Some(seen) },
             Err(error) => return Err(error),
         }
     }
@@ -111,7 +101,7 @@ fn note_whole<'a>(
     alloc: Global,
 ) -> Result<&'a SizeTree<'a>, SizeErr>
     requires { Held table.old }
-    ensures { (N : Names) (types : Sub) (σ : Finding) → Holds table.old σ → Steps (λ t y. y ≡ size_of t.now) (and_then (all_noted N types (laters_of later.now) σ) (λ z. note node (size_of whole.now))) tables.old tables.new result }
+    ensures { (N : Names) (types : Sub) (σ : Finding) → Holds table.old σ → Chained later.now any_last → Steps (λ t y. y ≡ size_of t.now) (and_then (all_noted N types (laters_of later.now) σ) (λ z. note node (size_of whole.now))) tables.old tables.new result }
 {
     match note_all(later, table, tables, bump, alloc) {
         Ok(()) => {}
@@ -136,7 +126,7 @@ fn note_result<'a>(
     alloc: Global,
 ) -> Result<&'a SizeTree<'a>, SizeErr>
     requires { Held table.old }
-    ensures { (N : Names) (types : Sub) (σ : Finding) → Holds table.old σ → Steps (λ t y. y ≡ size_of t.now) (met_noted N types node (record { size = size_of size.now; found = σ; later = laters_of later.now; goes_on = goes_on })) tables.old tables.new result }
+    ensures { (N : Names) (types : Sub) (σ : Finding) → Holds table.old σ → Chained later.now any_last → Steps (λ t y. y ≡ size_of t.now) (met_noted N types node (record { size = size_of size.now; found = σ; later = laters_of later.now; goes_on = goes_on })) tables.old tables.new result }
 {
     match closed_size(size, goes_on, table, bump, alloc) {
         Ok(whole) => note_whole(node, whole, later, table, tables, bump, alloc),
@@ -173,7 +163,8 @@ pub fn note_met<'a>(
 /// Later nodes but the first two; of fewer, none.
 #[tactic(auto, using(crate::proofs::NotingForms::fewer))]
 fn without_two<'b, 'a>(later: &'b [Later<'a>]) -> &'b [Later<'a>]
-    ensures { laters_of result.now ≡ without_two (laters_of later.now) }
+    ensures later { laters_of result.now ≡ without_two (laters_of later.now) }
+    ensures chained { Chained later.now any_last → Chained result.now any_last }
 {
     if later.len() < 2 {
         return &later[later.len()..];

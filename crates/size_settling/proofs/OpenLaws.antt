@@ -39,7 +39,7 @@ module _ (q : Free → Bool) where
 
 -- ---- nothing is open
 
-abbrev Settled : Size → Type 0
+abbrev pub Settled : Size → Type 0
 Settled t = collected is_slot t [] ≡ []
 
 abbrev All_settled : Sizes → Type 0
@@ -71,7 +71,7 @@ module _ (k : ℕ) (p r : Size) (h : Settled (Fun k p r)) where
   unfolding collected
   from_settled = none_first is_slot r (collected is_slot p []) h
 
-  to_settled : Settled r
+  pub to_settled : Settled r
   unfolding collected
   to_settled = sym (ap (collected is_slot r) from_settled) ∙ h
 

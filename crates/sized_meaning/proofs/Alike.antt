@@ -1,4 +1,6 @@
 -- Sized types of one form, whose sizes are worth the same, have the same values.
+use Rattle.std.proofs.Common.{Bool}
+use Rattle.fut_scalar.specs.declared.place.Place.{Place}
 use Rattle.std.proofs.Common.{◌≡◌, ℕ, suc, sym, ◌∙◌}
 use Rattle.fut_types.specs.declared.Head.{Head}
 use Rattle.fut_typing.specs.Names.{Names}
@@ -58,20 +60,20 @@ module _ (N : Names) (τ : Meant) (m m' : Worth) where
     named_alike_data (alike_more q qs) n i fs = let b = named_alike_data qs n (suc i) fs in
         ((λ x. ((λ f p. let c = x.0 f p in (c.0, c.1, (alike_datum q c.0).0 c.2)), b.0 x.1)), (λ x. ((λ f p. let c = x.0 f p in (c.0, c.1, (alike_datum q c.0).1 c.2)), b.1 x.1)))
 
-  module _ (Z : Sizing) (calls : FlatValue → FlatValue → Rel FlatValue) where
+  module _ (Z : Sizing) (is_there : Place → Bool) (calls : FlatValue → FlatValue → Rel FlatValue) where
     mutual
       unfolding Fits All_fit Named_fit
 
-      pub alike_fits : {t u : Size} → Alike m m' t u → (v : FlatValue) → Ways (Fits N τ Z calls m no_frames t v) (Fits N τ Z calls m' no_frames u v)
+      pub alike_fits : {t u : Size} → Alike m m' t u → (v : FlatValue) → Ways (Fits N τ Z is_there calls m no_frames t v) (Fits N τ Z is_there calls m' no_frames u v)
       alike_fits (alike_hole {v}) w = data_as _ _ (λ x. alike_datum (alike_hole {v = v}) x) w
       alike_fits (alike_level e q) v = data_as _ _ (λ x. alike_datum (alike_level e q) x) v
       alike_fits (alike_built {h} {ts} {us} q) v = of_head_as h _ _ _ _ (λ vs. all_alike_fit q vs) (λ n fs. named_alike_fit q n 0 fs) v
 
-      all_alike_fit : {ts us : Sizes} → All_alike m m' ts us → (vs : FlatValues) → Ways (All_fit N τ Z calls m no_frames ts vs) (All_fit N τ Z calls m' no_frames us vs)
+      all_alike_fit : {ts us : Sizes} → All_alike m m' ts us → (vs : FlatValues) → Ways (All_fit N τ Z is_there calls m no_frames ts vs) (All_fit N τ Z is_there calls m' no_frames us vs)
       all_alike_fit alike_none vs = same_ways
       all_alike_fit (alike_more q qs) vs = first_value_as _ _ _ _ (λ v. alike_fits q v) (λ vs. all_alike_fit qs vs) vs
 
-      named_alike_fit : {ts us : Sizes} → All_alike m m' ts us → (n i : ℕ) (fs : FlatFields) → Ways (Named_fit N τ Z calls m no_frames n i ts fs) (Named_fit N τ Z calls m' no_frames n i us fs)
+      named_alike_fit : {ts us : Sizes} → All_alike m m' ts us → (n i : ℕ) (fs : FlatFields) → Ways (Named_fit N τ Z is_there calls m no_frames n i ts fs) (Named_fit N τ Z is_there calls m' no_frames n i us fs)
       named_alike_fit alike_none n i fs = same_ways
       named_alike_fit (alike_more q qs) n i fs = let b = named_alike_fit qs n (suc i) fs in
           ((λ x. ((λ f p. let c = x.0 f p in (c.0, c.1, (alike_fits q c.0).0 c.2)), b.0 x.1)), (λ x. ((λ f p. let c = x.0 f p in (c.0, c.1, (alike_fits q c.0).1 c.2)), b.1 x.1)))

@@ -1,4 +1,6 @@
 -- Applications: what a function gives for an argument is of the sized type of the node.
+use Rattle.fut_scalar.specs.declared.report.Report.{Report}
+use Rattle.sized_meaning.specs.There.{There}
 use Rattle.std.specs.Prelude.{pos, ◌^◌}
 use Rattle.std.proofs.Math.Nat.{mod-eq_of_lt}
 use Rattle.std.proofs.lemmas.Int.{to_z_pos}
@@ -57,7 +59,7 @@ module _ (N : Names) (types : Sub) (τ : Meant) (W : World) (S : Sound N types W
   Beyond lo hi d = Out_beyond N types τ W lo hi d
 
   abbrev Of : Worth → Size → FlatValue → Type 0
-  Of m t v = Fits N τ W.sizing (calls W) m no_frames t v
+  Of m t v = Fits N τ W.sizing W.is_there (calls W) m no_frames t v
 
   -- what names and nodes may be worth under an environment
   abbrev Worths : ℕ → ℕ → Context → FlatEnv → Type 0
@@ -66,7 +68,7 @@ module _ (N : Names) (types : Sub) (τ : Meant) (W : World) (S : Sound N types W
   abbrev All_results : ℕ → ℕ → Context → FlatEnv → Size → FlatValue → Type 0
   All_results lo hi G env t v = (w : Worths lo hi G env) → R_of lo hi w.0 t v
 
-  pub evaluates : (P : FlatValue → Type 0) (t : FlatTask) → Gives P (step ((flat_names (told W)).lang W.tops) (plain W.tight) W.budget (means W) t) → Gives P (means W t)
+  pub evaluates : {quiet : Report → Type 0} (P : FlatValue → Type 0) (t : FlatTask) → Gives quiet P (step ((flat_names (told W)).lang W.tops) (plain W.tight) W.budget (means W) t) → Gives quiet P (means W t)
   evaluates P t h o f x = h o f (open_up ((flat_names (told W)).lang W.tops) (plain W.tight) W.budget t o f x)
 
   -- two worths that agree on a size do so once one is chosen at a node
@@ -79,21 +81,24 @@ module _ (N : Names) (types : Sub) (τ : Meant) (W : World) (S : Sound N types W
   both_at n F m m' (Slot i) e = e
 
   -- ---- what the argument of an application is worth
+  abbrev pub Is_i64 : Context → ℕ → Type 0
+  Is_i64 G x = (G.sizes x ≡ Some i64_size) ⊎ (G.schemes x ≡ Some i64_size)
+
   abbrev pub Worth_of : ℕ → ℕ → Context → FlatEnv → Free → FlatValue → Type 0
-  Worth_of lo i G env d v = (d ≡ Unknown lo i) ⊎ (((x : ℕ) × (d ≡ Name x) × (G.sizes x ≡ Some i64_size) × (flat_look W.tops env x ≡ Val v)) ⊎ ((c : ℕ) × (d ≡ Const c) × (word v ≡ c)))
+  Worth_of lo i G env d v = (d ≡ Unknown lo i) ⊎ (((x : ℕ) × (d ≡ Name x) × Is_i64 G x × (flat_look W.tops env x ≡ Val v)) ⊎ ((c : ℕ) × (d ≡ Const c) × (word v ≡ c)))
 
   unfoldable pub literal_type : Option IntType → ℕ → IntType
   literal_type None mid = W.integer_at mid
   literal_type (Some i) mid = i
 
-  pub literal_value : (c : ℕ) (t : Option IntType) (mark : Place) (mid : ℕ) (env : FlatEnv) → Gives (λ v. v ≡ Scalar_value (integer (literal_type t mid) (pos c))) (means W (Evaluate env mid (Strict (Integer c t) mark no_term)))
+  pub literal_value : (c : ℕ) (t : Option IntType) (mark : Place) (mid : ℕ) (env : FlatEnv) → Gives (There W.is_there) (λ v. v ≡ Scalar_value (integer (literal_type t mid) (pos c))) (means W (Evaluate env mid (Strict (Integer c t) mark no_term)))
   unfolding flat_names operate coerced literal_type
   literal_value c None mark mid env = evaluates _ (Evaluate env mid (Strict (Integer c None) mark no_term))
-      (gives_then (λ vs. vs ≡ []) (λ v. v ≡ Scalar_value (integer (W.integer_at mid) (pos c))) _ _ (gives_exact _ 0 (Val []) refl)
-      (λ vs q. subst (λ y. Gives (λ v. v ≡ Scalar_value (integer (W.integer_at mid) (pos c))) (operated false (row_told ((flat_names (told W)).lang W.tops) (Of_literal env mid)) (fits_type ((flat_names (told W)).lang W.tops) env mid) (W.integer_at mid) (Integer c None) mark y)) (sym q) (gives_exact _ 0 _ refl)))
+      (gives_then (λ vs. vs ≡ []) (λ v. v ≡ Scalar_value (integer (W.integer_at mid) (pos c))) _ _ (gives_exact _ _ 0 (Val []) refl)
+      (λ vs q. subst (λ y. Gives (There W.is_there) (λ v. v ≡ Scalar_value (integer (W.integer_at mid) (pos c))) (operated false (row_told ((flat_names (told W)).lang W.tops) (Of_literal env mid)) (fits_type ((flat_names (told W)).lang W.tops) env mid) (W.integer_at mid) (Integer c None) mark y)) (sym q) (gives_exact _ _ 0 _ refl)))
   literal_value c (Some i) mark mid env = evaluates _ (Evaluate env mid (Strict (Integer c (Some i)) mark no_term))
-      (gives_then (λ vs. vs ≡ []) (λ v. v ≡ Scalar_value (integer i (pos c))) _ _ (gives_exact _ 0 (Val []) refl)
-      (λ vs q. subst (λ y. Gives (λ v. v ≡ Scalar_value (integer i (pos c))) (operated false (row_told ((flat_names (told W)).lang W.tops) (Of_literal env mid)) (fits_type ((flat_names (told W)).lang W.tops) env mid) (W.integer_at mid) (Integer c (Some i)) mark y)) (sym q) (gives_exact _ 0 _ refl)))
+      (gives_then (λ vs. vs ≡ []) (λ v. v ≡ Scalar_value (integer i (pos c))) _ _ (gives_exact _ _ 0 (Val []) refl)
+      (λ vs q. subst (λ y. Gives (There W.is_there) (λ v. v ≡ Scalar_value (integer i (pos c))) (operated false (row_told ((flat_names (told W)).lang W.tops) (Of_literal env mid)) (fits_type ((flat_names (told W)).lang W.tops) env mid) (W.integer_at mid) (Integer c (Some i)) mark y)) (sym q) (gives_exact _ _ 0 _ refl)))
 
   literal_typed : (c : ℕ) (t : Option IntType) (mark : Place) (mid : ℕ) → Plain_term N types W (Strict (Integer c t) mark no_term) mid → s mid ≡ i64_size → literal_type t mid ≡ I64
   unfolding literal_type erased all_erased
@@ -142,27 +147,32 @@ module _ (N : Names) (types : Sub) (τ : Meant) (W : World) (S : Sound N types W
       unfolding frame
       frame_before i l = ap (λ b. cond b (word v) (free now (A.inside i))) (ne_eqb i A.chosen (λ e. omega (arith, l, e)))
 
-      parameter_here : Fits N τ W.sizing (calls W) now (push frame no_frames) A.from v
-      parameter_here = opened_fits N τ now A.inside (λ i. i < A.chosen) (Beyond lo (1 + lo)) frame A.from A.low scoped.0 frame_before W.sizing (calls W) no_frames no_frames v (suits_fits N τ W.sizing (calls W) A.argument now v argument_fits)
+      parameter_here : Fits N τ W.sizing W.is_there (calls W) now (push frame no_frames) A.from v
+      parameter_here = opened_fits N τ now A.inside (λ i. i < A.chosen) (Beyond lo (1 + lo)) frame A.from A.low scoped.0 frame_before W.sizing W.is_there (calls W) no_frames no_frames v (suits_fits N τ W.sizing W.is_there (calls W) A.argument now v argument_fits)
 
       abbrev Given_there : FlatValue → Type 0
-      Given_there w = (F' : ℕ → ℕ) × ((i : ℕ) → i ≤ A.chosen → F' i ≡ frame i) × Fits N τ W.sizing (calls W) now (push F' no_frames) A.to w
+      Given_there w = (F' : ℕ → ℕ) × ((i : ℕ) → i ≤ A.chosen → F' i ≡ frame i) × Fits N τ W.sizing W.is_there (calls W) now (push F' no_frames) A.to w
 
-      call_gives : Gives (λ w. (F' : ℕ → ℕ) × ((i : ℕ) → i ≤ A.chosen → F' i ≡ frame i) × Fits N τ W.sizing (calls W) now (push F' no_frames) A.to w) (calls W h v)
+      call_gives : Gives (There W.is_there) (λ w. (F' : ℕ → ℕ) × ((i : ℕ) → i ≤ A.chosen → F' i ≡ frame i) × Fits N τ W.sizing W.is_there (calls W) now (push F' no_frames) A.to w) (calls W h v)
       unfolding Fits
       call_gives = of_function (subst (λ u. Of now u h) A.function function_fits) frame v frame_value parameter_here
         where
-          of_function : Of now (Fun A.chosen A.from A.to) h → (F : ℕ → ℕ) (u : FlatValue) → F A.chosen ≡ word u → Fits N τ W.sizing (calls W) now (push F no_frames) A.from u
-              → Gives (λ w. (F' : ℕ → ℕ) × ((i : ℕ) → i ≤ A.chosen → F' i ≡ F i) × Fits N τ W.sizing (calls W) now (push F' no_frames) A.to w) (calls W h u)
+          of_function : Of now (Fun A.chosen A.from A.to) h → (F : ℕ → ℕ) (u : FlatValue) → F A.chosen ≡ word u → Fits N τ W.sizing W.is_there (calls W) now (push F no_frames) A.from u
+              → Gives (There W.is_there) (λ w. (F' : ℕ → ℕ) × ((i : ℕ) → i ≤ A.chosen → F' i ≡ F i) × Fits N τ W.sizing W.is_there (calls W) now (push F' no_frames) A.to w) (calls W h u)
           of_function fits = fits.1
 
     module _ (m : Worth) (E : Env_of lo hi m G env) (X : Together m) where
       -- the name that the argument is keeps its worth
-      still : (x : ℕ) → G.sizes x ≡ Some i64_size → X.now (Name x) ≡ m (Name x)
-      still x e = X.old (Name x) (outside_narrower N types τ W lo hi (1 + lo) hi (omega arith) (omega arith) (Name x) (E.away x i64_size e).1)
+      beyond_here : (x : ℕ) → Is_i64 G x → Beyond lo hi (Name x)
+      beyond_here x (inl e) = (E.away x i64_size e).1
+      beyond_here x (inr e) = (E.general_worth x i64_size e refl).0
 
-      name_worth : (x : ℕ) → G.sizes x ≡ Some i64_size → flat_look W.tops env x ≡ Val v → word v ≡ X.now (Name x)
-      name_worth x e l = (E.values x i64_size e v l).1 ∙ sym (still x e)
+      still : (x : ℕ) → Is_i64 G x → X.now (Name x) ≡ m (Name x)
+      still x e = X.old (Name x) (outside_narrower N types τ W lo hi (1 + lo) hi (omega arith) (omega arith) (Name x) (beyond_here x e))
+
+      name_worth : (x : ℕ) → Is_i64 G x → flat_look W.tops env x ≡ Val v → word v ≡ X.now (Name x)
+      name_worth x (inl e) l = (E.values x i64_size e v l).1 ∙ sym (still x (inl e))
+      name_worth x (inr e) l = (E.general_worth x i64_size e refl).1 v l ∙ sym (still x (inr e))
 
       old_is : (F : ℕ → ℕ) (d : Free) → Beyond lo hi d → at_node lo F X.now d ≡ m d
       old_is F d o = beyond_node N types τ W lo F X.now d (outside_narrower N types τ W lo hi lo (1 + lo) (omega arith) (omega (arith, lt, le)) d o) ∙ X.old d (outside_narrower N types τ W lo hi (1 + lo) hi (omega arith) (omega arith) d o)
@@ -178,7 +188,7 @@ module _ (N : Names) (types : Sub) (τ : Meant) (W : World) (S : Sound N types W
         value_worth : Worth_of lo (A.base + A.chosen) G env (A.inside A.chosen) v → F' A.chosen ≡ free (at_node lo (λ j. F' (j - A.base)) X.now) (A.inside A.chosen)
         value_worth (inl e) = new_worth (A.inside A.chosen) A.chosen e
         value_worth (inr (inr q)) = agrees A.chosen (omega arith) ∙ frame_value X.now X.function_fits X.argument_fits ∙ q.2 ∙ sym (ap (free (at_node lo (λ j. F' (j - A.base)) X.now)) q.1)
-        value_worth (inr (inl q)) = agrees A.chosen (omega arith) ∙ frame_value X.now X.function_fits X.argument_fits ∙ name_worth q.0 q.2 q.3 ∙ sym (beyond_node N types τ W lo (λ j. F' (j - A.base)) X.now (Name q.0) (outside_narrower N types τ W lo hi lo (1 + lo) (omega arith) (omega (arith, lt, le)) (Name q.0) (E.away q.0 i64_size q.2).1)) ∙ sym (ap (free (at_node lo (λ j. F' (j - A.base)) X.now)) q.1)
+        value_worth (inr (inl q)) = agrees A.chosen (omega arith) ∙ frame_value X.now X.function_fits X.argument_fits ∙ name_worth q.0 q.2 q.3 ∙ sym (beyond_node N types τ W lo (λ j. F' (j - A.base)) X.now (Name q.0) (outside_narrower N types τ W lo hi lo (1 + lo) (omega arith) (omega (arith, lt, le)) (Name q.0) (beyond_here q.0 q.2))) ∙ sym (ap (free (at_node lo (λ j. F' (j - A.base)) X.now)) q.1)
 
         positions_worth : (i : ℕ) → Unit {0} → F' i ≡ free (at_node lo (λ j. F' (j - A.base)) X.now) (A.inside i)
         positions_worth i u = by_order (nat_eq i A.chosen) refl
@@ -195,14 +205,14 @@ module _ (N : Names) (types : Sub) (τ : Meant) (W : World) (S : Sound N types W
             by_order true q = subst (λ j. F' j ≡ free (at_node lo (λ j. F' (j - A.base)) X.now) (A.inside j)) (sym (eqb-true i A.chosen q)) (value_worth worth)
             by_order false q = before_or_after (in_order i A.chosen (eqb-false i A.chosen q))
 
-        result_is : (w : FlatValue) → s lo ≡ opened A.inside A.to → Fits N τ W.sizing (calls W) X.now (push F' no_frames) A.to w → R_of lo hi m (s lo) w
+        result_is : (w : FlatValue) → s lo ≡ opened A.inside A.to → Fits N τ W.sizing W.is_there (calls W) X.now (push F' no_frames) A.to w → R_of lo hi m (s lo) w
         result_is w same fits = record {
           now = at_node lo (λ j. F' (j - A.base)) X.now;
           old = old_is (λ j. F' (j - A.base));
           fits = subst (λ u. Of (at_node lo (λ j. F' (j - A.base)) X.now) u w) (sym same)
               (fits_opened N τ (at_node lo (λ j. F' (j - A.base)) X.now) A.inside Any_position (Beyond lo (1 + lo)) F' A.to
-              (each_as (Scoped (Beyond lo (1 + lo))) (Of_positions Any_position) (any_position (Beyond lo (1 + lo))) A.to 1 scoped.1) scoped.1 positions_worth W.sizing (calls W) no_frames no_frames w
-              (fits_same (Beyond lo (1 + lo)) X.now (at_node lo (λ j. F' (j - A.base)) X.now) N τ W.sizing (calls W) (λ d o. sym (beyond_node N types τ W lo (λ j. F' (j - A.base)) X.now d o)) A.to 1 (push F' no_frames) (push F' no_frames) scoped.1 (λ j i l. refl) w fits));
+              (each_as (Scoped (Beyond lo (1 + lo))) (Of_positions Any_position) (any_position (Beyond lo (1 + lo))) A.to 1 scoped.1) scoped.1 positions_worth W.sizing W.is_there (calls W) no_frames no_frames w
+              (fits_same (Beyond lo (1 + lo)) X.now (at_node lo (λ j. F' (j - A.base)) X.now) N τ W.sizing W.is_there (calls W) (λ d o. sym (beyond_node N types τ W lo (λ j. F' (j - A.base)) X.now d o)) A.to 1 (push F' no_frames) (push F' no_frames) scoped.1 (λ j i l. refl) w fits));
         }
 
       -- a function whose caller chooses what is still open
@@ -226,10 +236,10 @@ module _ (N : Names) (types : Sub) (τ : Meant) (W : World) (S : Sound N types W
 
         module _ (F : ℕ → ℕ) where
           function_there : Of (at_node C.n F X.now) (s (1 + lo)) h
-          function_there = fits_same (Free_of C.n) X.now (at_node C.n F X.now) N τ W.sizing (calls W) (λ d o. sym (node_else C.n F X.now d o)) (s (1 + lo)) 0 no_frames no_frames function_away (λ j i l. refl) h X.function_fits
+          function_there = fits_same (Free_of C.n) X.now (at_node C.n F X.now) N τ W.sizing W.is_there (calls W) (λ d o. sym (node_else C.n F X.now d o)) (s (1 + lo)) 0 no_frames no_frames function_away (λ j i l. refl) h X.function_fits
 
           argument_there : Of (at_node C.n F X.now) (s mid) v
-          argument_there = fits_same (Free_of C.n) X.now (at_node C.n F X.now) N τ W.sizing (calls W) (λ d o. sym (node_else C.n F X.now d o)) (s mid) 0 no_frames no_frames argument_away (λ j i l. refl) v X.argument_fits
+          argument_there = fits_same (Free_of C.n) X.now (at_node C.n F X.now) N τ W.sizing W.is_there (calls W) (λ d o. sym (node_else C.n F X.now d o)) (s mid) 0 no_frames no_frames argument_away (λ j i l. refl) v X.argument_fits
 
           module _ (F' : ℕ → ℕ) (agrees : (i : ℕ) → i ≤ A.chosen → F' i ≡ frame (at_node C.n F X.now) function_there argument_there i) where
             chosen_value : Worth_of lo (A.base + A.chosen) G env (A.inside A.chosen) v → F' A.chosen ≡ free (at_node C.n F (at_node lo value_here X.now)) (A.inside A.chosen)
@@ -255,28 +265,29 @@ module _ (N : Names) (types : Sub) (τ : Meant) (W : World) (S : Sound N types W
                 by_order true q = subst (λ j. F' j ≡ free (at_node C.n F (at_node lo value_here X.now)) (A.inside j)) (sym (eqb-true i A.chosen q)) (chosen_value worth)
                 by_order false q = before (in_order i A.chosen (eqb-false i A.chosen q))
 
-            given_there : (w : FlatValue) → Fits N τ W.sizing (calls W) (at_node C.n F X.now) (push F' no_frames) A.to w → Of (at_node C.n F (at_node lo value_here X.now)) (Fun C.chosen C.from C.to) w
+            given_there : (w : FlatValue) → Fits N τ W.sizing W.is_there (calls W) (at_node C.n F X.now) (push F' no_frames) A.to w → Of (at_node C.n F (at_node lo value_here X.now)) (Fun C.chosen C.from C.to) w
             given_there w fits = subst (λ u. Of (at_node C.n F (at_node lo value_here X.now)) u w) C.is_function
-                (fits_opened N τ (at_node C.n F (at_node lo value_here X.now)) A.inside (λ i. i ≤ A.chosen) (Beyond lo (1 + lo)) F' A.to low scoped.1 chosen_worth W.sizing (calls W) no_frames no_frames w
-                (fits_same (Beyond lo (1 + lo)) (at_node C.n F X.now) (at_node C.n F (at_node lo value_here X.now)) N τ W.sizing (calls W) (λ d o. both_at C.n F X.now (at_node lo value_here X.now) d (sym (beyond_node N types τ W lo value_here X.now d o))) A.to 1 (push F' no_frames) (push F' no_frames) scoped.1 (λ j i l. refl) w fits))
+                (fits_opened N τ (at_node C.n F (at_node lo value_here X.now)) A.inside (λ i. i ≤ A.chosen) (Beyond lo (1 + lo)) F' A.to low scoped.1 chosen_worth W.sizing W.is_there (calls W) no_frames no_frames w
+                (fits_same (Beyond lo (1 + lo)) (at_node C.n F X.now) (at_node C.n F (at_node lo value_here X.now)) N τ W.sizing W.is_there (calls W) (λ d o. both_at C.n F X.now (at_node lo value_here X.now) d (sym (beyond_node N types τ W lo value_here X.now d o))) A.to 1 (push F' no_frames) (push F' no_frames) scoped.1 (λ j i l. refl) w fits))
 
         chosen_result : (w : FlatValue) → ((F : ℕ → ℕ) → Of (at_node C.n F (at_node lo value_here X.now)) (Fun C.chosen C.from C.to) w) → R_of lo hi m (s lo) w
         chosen_result w there = record {
           now = at_node lo value_here X.now;
           old = old_is value_here;
           fits = subst (λ u. Of (at_node lo value_here X.now) u w) (sym C.wanted)
-              (instance_fits N τ W.sizing (calls W) C.chosen C.from C.to C.wanted_chosen C.wanted_from C.wanted_to C.n C.m C.δ C.ρ C.at_choice C.parameter C.result (λ m v x. suits_fits N τ W.sizing (calls W) C.parameter m v x) (λ m v x. suits_fits N τ W.sizing (calls W) C.result m v x) (at_node lo value_here X.now) w there);
+              (instance_fits N τ W.sizing W.is_there (calls W) C.chosen C.from C.to C.wanted_chosen C.wanted_from C.wanted_to C.n C.m C.δ C.ρ C.at_choice C.parameter C.result (λ m v x. suits_fits N τ W.sizing W.is_there (calls W) C.parameter m v x) (λ m v x. suits_fits N τ W.sizing W.is_there (calls W) C.result m v x) (at_node lo value_here X.now) w there);
         }
 
-        chosen_gives : Gives (R_of lo hi m (s lo)) (calls W h v)
+        chosen_gives : Gives (There W.is_there) (R_of lo hi m (s lo)) (calls W h v)
         chosen_gives = gives_as (λ w. (F : ℕ → ℕ) → Of (at_node C.n F (at_node lo value_here X.now)) (Fun C.chosen C.from C.to) w) (R_of lo hi m (s lo)) (calls W h v)
             (gives_all (λ F w. Of (at_node C.n F (at_node lo value_here X.now)) (Fun C.chosen C.from C.to) w) (calls W h v)
+            (gives_as _ (λ w. Unit {0}) (calls W h v) (call_gives (at_node C.n (λ i. 0) X.now) (function_there (λ i. 0)) (argument_there (λ i. 0))) (λ w q. tt))
             (λ F. gives_as _ _ (calls W h v) (call_gives (at_node C.n F X.now) (function_there F) (argument_there F)) (λ w q. given_there F q.0 q.1 w q.2))) chosen_result
 
-      pub called : Gives (R_of lo hi m (s lo)) (calls W h v)
+      pub called : Gives (There W.is_there) (R_of lo hi m (s lo)) (calls W h v)
       called = by_result A.result
         where
-          by_result : (s lo ≡ opened A.inside A.to) ⊎ ((C : For_each_choice (opened A.inside A.to) (s lo)) × (C.n ≡ lo → ⊥) × Never_at C.n (s (1 + lo)) × Never_at C.n (s mid) × Each (Of_positions (λ i. i ≤ A.chosen)) 1 A.to) → Gives (R_of lo hi m (s lo)) (calls W h v)
+          by_result : (s lo ≡ opened A.inside A.to) ⊎ ((C : For_each_choice (opened A.inside A.to) (s lo)) × (C.n ≡ lo → ⊥) × Never_at C.n (s (1 + lo)) × Never_at C.n (s mid) × Each (Of_positions (λ i. i ≤ A.chosen)) 1 A.to) → Gives (There W.is_there) (R_of lo hi m (s lo)) (calls W h v)
           by_result (inl same) = gives_as _ (R_of lo hi m (s lo)) (calls W h v) (call_gives X.now X.function_fits X.argument_fits) (λ w q. result_is q.0 q.1 w same q.2)
           by_result (inr q) = chosen_gives q.0 q.1 q.2 q.3 q.4
 

@@ -1,4 +1,5 @@
 -- Data of a sized type has its shapes, and a value of a type without functions is of it where it is such data.
+use Rattle.fut_scalar.specs.declared.place.Place.{Place}
 use Rattle.std.proofs.Common.{◌≡◌, ℕ, suc, List, [], ◌∷◌, Bool, true, false, cond, Option, Some, refl, sym, ap, ◌∙◌, subst}
 use Rattle.std.specs.Str.{bytes_eq}
 use Rattle.fut_ast.specs.Sorts.{Text}
@@ -14,9 +15,10 @@ use Rattle.fut_meaning.specs.Values.{Scalar_value, Tuple_value, Record_value, Ar
 use Rattle.sized_types.specs.Sizes.{Size, Hole, Open, Level, Built, Fun, Sizes, no_size, size_and}
 use Rattle.fut_sizes.specs.Suiting.{Data, All_data}
 use Rattle.sized_meaning.specs.Worth.{Worth, Frames}
-use Rattle.sized_meaning.specs.Shapes.{Meant, field_datum, Has_shape, Have_shapes, Have_named, Has_datum, Have_data, Named_data}
+use Rattle.sized_meaning.specs.Shapes.{Meant, Record_names, datum_names, field_datum, Has_shape, Have_shapes, Have_named, Has_datum, Have_data, Named_data}
 use Rattle.sized_meaning.specs.Finding.{Fields_from, Fields_are, As_many, Well_formed, All_well_formed}
-use Rattle.sized_meaning.specs.Fits.{FlatValues, FlatFields, Fits, All_fit, Named_fit}
+use Rattle.sized_meaning.specs.Fits.{FlatValues, FlatFields, field_names, Fits, All_fit, Named_fit}
+use Rattle.sized_meaning.proofs.Fields.{shaped_names}
 use Rattle.sized_meaning.proofs.Finding.{some_same, none_no}
 
 field_shaped : (f : Text) (fs : Named_datums) (x : Datum) → field_datum f fs ≡ Some x → field_shape f (named_shapes_of fs) ≡ Some (shape_of x)
@@ -56,7 +58,7 @@ module _ (N : Names) (τ : Meant) (m : Worth) (φ : Frames) where
     data_shaped (size_and t ts) (datum_and d ds) h = (datum_shaped t d h.0, data_shaped ts ds h.1)
 
     named_shaped : (n i : ℕ) (ts : Sizes) (fs : Named_datums) → Named_data N τ m φ n i ts fs → Have_named N τ m φ n i ts (named_shapes_of fs)
-    named_shaped n i no_size fs h = tt
+    named_shaped n i no_size fs h = subst (Record_names N n i) (sym (shaped_names fs)) h
     named_shaped n i (size_and t ts) fs h = ((λ f p. let c = h.0 f p in (shape_of c.0, field_shaped f fs c.0 c.1, datum_shaped t c.0 c.2)), named_shaped n (suc i) ts fs h.1)
 
 -- only data has shapes
@@ -129,12 +131,21 @@ datum_of_field f (field_and g w fs) ds e v q =
     tested rest true d z q go = (d, refl, subst (λ y. datum_of y ≡ Val d) (some_same q) z)
     tested rest false d z q go = go q
 
-module _ (N : Names) (τ : Meant) (Z : Sizing) (calls : FlatValue → FlatValue → Rel FlatValue) (m : Worth) (φ : Frames) where
+-- a record's data has the names of its fields
+valued_names : (fs : FlatFields) (ds : Named_datums) → named_datums_of fs ≡ Val ds → datum_names ds ≡ field_names fs
+unfolding named_datums_of
+valued_names no_field ds e = ap datum_names (sym (the_value no_named ds e))
+valued_names (field_and g w fs) ds e =
+    let r = value_same (datum_of w) (λ d. and_then (named_datums_of fs) (λ ds. Val (named_and g d ds))) ds e in
+    let p = value_same (named_datums_of fs) (λ ds. Val (named_and g r.0 ds)) ds r.2 in
+    ap datum_names (sym (the_value (named_and g r.0 p.0) ds p.2)) ∙ ap (λ xs. g ∷ xs) (valued_names fs p.0 p.1)
+
+module _ (N : Names) (τ : Meant) (Z : Sizing) (is_there : Place → Bool) (calls : FlatValue → FlatValue → Rel FlatValue) (m : Worth) (φ : Frames) where
   mutual
     unfolding Fits All_fit Named_fit Data All_data Has_datum Have_data Named_data datum_of datums_of named_datums_of
 
     -- data of the type is a value of it
-    pub datum_fits : (t : Size) → Data t → (v : FlatValue) (x : Datum) → datum_of v ≡ Val x → Has_datum N τ m φ t x → Fits N τ Z calls m φ t v
+    pub datum_fits : (t : Size) → Data t → (v : FlatValue) (x : Datum) → datum_of v ≡ Val x → Has_datum N τ m φ t x → Fits N τ Z is_there calls m φ t v
     datum_fits (Hole a) d v x e h = record { datum = x; is_datum = e; fits = h }
     datum_fits (Open n a u) d v x e h = absurd d
     datum_fits (Level y t) d v x e h = record { datum = x; is_datum = e; fits = h }
@@ -162,7 +173,7 @@ module _ (N : Names) (τ : Meant) (Z : Sizing) (calls : FlatValue → FlatValue 
     datum_fits (Built (head.Rigid n k) ts) d v x e h = absurd h
     datum_fits (Fun k p r) d v x e h = absurd d
 
-    all_data_fit : (ts : Sizes) → All_data ts → (vs : FlatValues) (ds : Datums) → datums_of vs ≡ Val ds → Have_data N τ m φ ts ds → All_fit N τ Z calls m φ ts vs
+    all_data_fit : (ts : Sizes) → All_data ts → (vs : FlatValues) (ds : Datums) → datums_of vs ≡ Val ds → Have_data N τ m φ ts ds → All_fit N τ Z is_there calls m φ ts vs
     all_data_fit no_size d no_value ds e h = tt
     all_data_fit no_size d (value_and v vs) ds e h =
         let r = value_same (datum_of v) (λ d. and_then (datums_of vs) (λ ds. Val (datum_and d ds))) ds e in
@@ -175,15 +186,15 @@ module _ (N : Names) (τ : Meant) (Z : Sizing) (calls : FlatValue → FlatValue 
         let k = subst (λ z. Have_data N τ m φ (size_and t ts) z) (sym (the_value (datum_and r.0 q.0) ds q.2)) h in
         (datum_fits t d.0 v r.0 r.1 k.0, all_data_fit ts d.1 vs q.0 q.1 k.1)
 
-    named_data_fit : (n i : ℕ) (ts : Sizes) → All_data ts → (fs : FlatFields) (ds : Named_datums) → named_datums_of fs ≡ Val ds → Named_data N τ m φ n i ts ds → Named_fit N τ Z calls m φ n i ts fs
-    named_data_fit n i no_size d fs ds e h = tt
+    named_data_fit : (n i : ℕ) (ts : Sizes) → All_data ts → (fs : FlatFields) (ds : Named_datums) → named_datums_of fs ≡ Val ds → Named_data N τ m φ n i ts ds → Named_fit N τ Z is_there calls m φ n i ts fs
+    named_data_fit n i no_size d fs ds e h = subst (Record_names N n i) (valued_names fs ds e) h
     named_data_fit n i (size_and t ts) d fs ds e h = ((λ f p. let c = h.0 f p in let r = field_of_datum f fs ds e c.0 c.1 in (r.0, r.1, datum_fits t d.0 r.0 c.0 r.2 c.2)), named_data_fit n (suc i) ts d.1 fs ds e h.1)
 
   mutual
     unfolding Fits All_fit Named_fit Data All_data Has_datum Have_data Named_data datum_of datums_of named_datums_of
 
     -- and a value of it that is data is such data
-    pub fits_datum : (t : Size) → Data t → (v : FlatValue) (x : Datum) → datum_of v ≡ Val x → Fits N τ Z calls m φ t v → Has_datum N τ m φ t x
+    pub fits_datum : (t : Size) → Data t → (v : FlatValue) (x : Datum) → datum_of v ≡ Val x → Fits N τ Z is_there calls m φ t v → Has_datum N τ m φ t x
     fits_datum (Hole a) d v x e h = subst (λ z. Has_datum N τ m φ (Hole a) z) (the_value h.datum x (sym h.is_datum ∙ e)) h.fits
     fits_datum (Open n a u) d v x e h = absurd d
     fits_datum (Level y t) d v x e h = subst (λ z. Has_datum N τ m φ (Level y t) z) (the_value h.datum x (sym h.is_datum ∙ e)) h.fits
@@ -199,7 +210,7 @@ module _ (N : Names) (τ : Meant) (Z : Sizing) (calls : FlatValue → FlatValue 
     fits_datum (Built (head.Rigid n k) ts) d v x e h = absurd h
     fits_datum (Fun k p r) d v x e h = absurd d
 
-    all_fit_data : (ts : Sizes) → All_data ts → (vs : FlatValues) (ds : Datums) → datums_of vs ≡ Val ds → All_fit N τ Z calls m φ ts vs → Have_data N τ m φ ts ds
+    all_fit_data : (ts : Sizes) → All_data ts → (vs : FlatValues) (ds : Datums) → datums_of vs ≡ Val ds → All_fit N τ Z is_there calls m φ ts vs → Have_data N τ m φ ts ds
     all_fit_data no_size d no_value ds e h = subst (λ z. Have_data N τ m φ no_size z) (the_value no_datum ds e) tt
     all_fit_data no_size d (value_and v vs) ds e h = absurd h
     all_fit_data (size_and t ts) d no_value ds e h = absurd h
@@ -208,6 +219,6 @@ module _ (N : Names) (τ : Meant) (Z : Sizing) (calls : FlatValue → FlatValue 
         let q = value_same (datums_of vs) (λ ds. Val (datum_and r.0 ds)) ds r.2 in
         subst (λ z. Have_data N τ m φ (size_and t ts) z) (the_value (datum_and r.0 q.0) ds q.2) (fits_datum t d.0 v r.0 r.1 h.0, all_fit_data ts d.1 vs q.0 q.1 h.1)
 
-    named_fit_data : (n i : ℕ) (ts : Sizes) → All_data ts → (fs : FlatFields) (ds : Named_datums) → named_datums_of fs ≡ Val ds → Named_fit N τ Z calls m φ n i ts fs → Named_data N τ m φ n i ts ds
-    named_fit_data n i no_size d fs ds e h = tt
+    named_fit_data : (n i : ℕ) (ts : Sizes) → All_data ts → (fs : FlatFields) (ds : Named_datums) → named_datums_of fs ≡ Val ds → Named_fit N τ Z is_there calls m φ n i ts fs → Named_data N τ m φ n i ts ds
+    named_fit_data n i no_size d fs ds e h = subst (Record_names N n i) (sym (valued_names fs ds e)) h
     named_fit_data n i (size_and t ts) d fs ds e h = ((λ f p. let c = h.0 f p in let r = datum_of_field f fs ds e c.0 c.1 in (r.0, r.1, fits_datum t d.0 c.0 r.0 r.2 c.2)), named_fit_data n (suc i) ts d.1 fs ds e h.1)

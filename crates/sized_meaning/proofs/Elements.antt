@@ -1,5 +1,7 @@
 -- Array literals are of their sized types: elements that agree with the first are of its type, and without elements an array has
 -- rows of the type that its node tells.
+use Rattle.sized_meaning.proofs.Size_reports.{datum_fine}
+use Rattle.sized_meaning.specs.There.{There}
 use Rattle.std.proofs.Common.{◌≡◌, ℕ, zero, suc, ◌+◌, List, [], ◌∷◌, length, Bool, true, false, cond, Ok, Err, refl, sym, ap, ◌∙◌, subst, arith}
 use Rattle.fut_scalar.specs.declared.place.BindId.{BindId}
 use Rattle.fut_scalar.specs.declared.place.Place.{Place}
@@ -99,14 +101,14 @@ module _ (N : Names) (types : Sub) (τ : Meant) (W : World) (S : Sound N types W
   s n = W.sizing.size_at n
 
   abbrev Of : Size → FlatValue → Type 0
-  Of t v = Fits N τ W.sizing (calls W) m no_frames t v
+  Of t v = Fits N τ W.sizing W.is_there (calls W) m no_frames t v
 
   abbrev parts : Terms Ref BindId → ℕ → Sizes
   parts ts at = part_sizes N types W.sizing.size_at W.sizing.home ts at
 
   -- elements that agree with the first are of its type
   elements_fit : (first : ℕ) → Data (s first) → (es : Terms Ref BindId) (at : ℕ) (vs : List FlatValue) (z : Unit {0}) → Elements N types W (types first) es at → elements_agree (s first) es at (parts es at) ≡ Ok z
-      → All_fit N τ W.sizing (calls W) m no_frames (parts es at) (values vs) → Every (Of (s first)) vs × (length vs ≡ many (parts es at))
+      → All_fit N τ W.sizing W.is_there (calls W) m no_frames (parts es at) (values vs) → Every (Of (s first)) vs × (length vs ≡ many (parts es at))
   unfolding All_fit elements_agree
   elements_fit first d no_term at [] z p e h = (tt, refl)
   elements_fit first d no_term at (v ∷ vs) z p e h = absurd h
@@ -115,17 +117,17 @@ module _ (N : Names) (types : Sub) (τ : Meant) (W : World) (S : Sound N types W
       let r = then_ok (agree at (s first) (s at)) (λ z. elements_agree (s first) es (at + numbers x) (parts es (at + numbers x))) z e in
       let form = same_form W.sizing.fields (s first) (s at) d p.0 (S.formed first) (S.formed at) (S.typed first ∙ sym p.1 ∙ sym (S.typed at)) in
       let rest = elements_fit first d es (at + numbers x) vs z p.2 r.2 h.1 in
-      (((alike_fits N τ m m W.sizing (calls W) (agreed m at form r.0 r.1) v).0 h.0, rest.0), ap suc rest.1)
+      (((alike_fits N τ m m W.sizing W.is_there (calls W) (agreed m at form r.0 r.1) v).0 h.0, rest.0), ap suc rest.1)
 
-  data_given : (t : Size) → Data t → (vs : List FlatValue) → Every (Of t) vs → Out_fits (λ ds. Every (Has_datum N τ m no_frames t) ds × (length ds ≡ length vs)) (all_data vs)
+  data_given : (t : Size) → Data t → (vs : List FlatValue) → Every (Of t) vs → Out_fits (There W.is_there) (λ ds. Every (Has_datum N τ m no_frames t) ds × (length ds ≡ length vs)) (all_data vs)
   data_given t d [] e = (tt, refl)
-  data_given t d (v ∷ vs) e = out_then (Has_datum N τ m no_frames t) (λ ds. Every (Has_datum N τ m no_frames t) ds × (length ds ≡ length (v ∷ vs))) (datum_of v) _
-      (out_of (Has_datum N τ m no_frames t) (datum_of v) (λ x q. fits_datum N τ W.sizing (calls W) m no_frames t d v x q e.0))
-      (λ x hx. out_then (λ ds. Every (Has_datum N τ m no_frames t) ds × (length ds ≡ length vs)) (λ ds. Every (Has_datum N τ m no_frames t) ds × (length ds ≡ length (v ∷ vs))) (all_data vs) (λ ds. Val (x ∷ ds))
+  data_given t d (v ∷ vs) e = out_then _ (Has_datum N τ m no_frames t) (λ ds. Every (Has_datum N τ m no_frames t) ds × (length ds ≡ length (v ∷ vs))) (datum_of v) _
+      (out_of _ (Has_datum N τ m no_frames t) (datum_of v) (datum_fine W.is_there v) (λ x q. fits_datum N τ W.sizing W.is_there (calls W) m no_frames t d v x q e.0))
+      (λ x hx. out_then _ (λ ds. Every (Has_datum N τ m no_frames t) ds × (length ds ≡ length vs)) (λ ds. Every (Has_datum N τ m no_frames t) ds × (length ds ≡ length (v ∷ vs))) (all_data vs) (λ ds. Val (x ∷ ds))
       (data_given t d vs e.1) (λ ds q. ((hx, q.0), ap suc q.1)))
 
   -- an array of data of a type, where what is told for one without rows is a shape of it
-  literal_gives : (t : Size) (n : ℕ) (row : Shape) (mark : Place) (ds : List Datum) → length ds ≡ n → (ds ≡ [] → Has_shape N τ m no_frames t row) → Every (Has_datum N τ m no_frames t) ds → Out_fits (Has_datum N τ m no_frames (Level (At (Const n)) t)) (array false mark row ds)
+  literal_gives : (t : Size) (n : ℕ) (row : Shape) (mark : Place) (ds : List Datum) → length ds ≡ n → (ds ≡ [] → Has_shape N τ m no_frames t row) → Every (Has_datum N τ m no_frames t) ds → Out_fits (There W.is_there) (Has_datum N τ m no_frames (Level (At (Const n)) t)) (array false mark row ds)
   unfolding array
   literal_gives t n row mark [] l h e = array_gives N types τ W S one m no_frames (At (Const n)) t mark row [] l (h refl) e
   literal_gives t n row mark (d ∷ ds) l h e = array_gives N types τ W S one m no_frames (At (Const n)) t mark (shape_of d) (d ∷ ds) l (datum_shaped N τ m no_frames t d e.0) e
@@ -140,24 +142,24 @@ module _ (N : Names) (types : Sub) (τ : Meant) (W : World) (S : Sound N types W
       (told_right N W.sizing.fields S.fields τ m no_frames S.names (number V) (shape_found V) t (data_formed W.sizing.fields t (known_data t k) f) (known_there m V t k) (known_holes (λ v. (τ v).shape (shape_found V v)) t k))
 
   array_done : (t : Size) (n lo : ℕ) (row : Shape) (mark : Place) (vs : List FlatValue) → Data t → Level (At (Const n)) t ≡ s lo → length vs ≡ n → (length vs ≡ 0 → Has_shape N τ m no_frames t row) → Every (Of t) vs
-      → Gives (Res N types τ W lo (1 + lo) m (s lo)) (Then (the (all_data vs)) (λ ds. Then (the (made false row Make_array mark ds)) (λ r. gives r.0 (as_value r.1))))
+      → Gives (There W.is_there) (Res N types τ W lo (1 + lo) m (s lo)) (Then (the (all_data vs)) (λ ds. Then (the (made false row Make_array mark ds)) (λ r. gives r.0 (as_value r.1))))
   unfolding made
   array_done t n lo row mark vs d same l h e =
       gives_then (λ ds. Every (Has_datum N τ m no_frames t) ds × (length ds ≡ length vs)) (Res N types τ W lo (1 + lo) m (s lo)) _ _
-      (gives_exact (λ ds. Every (Has_datum N τ m no_frames t) ds × (length ds ≡ length vs)) 0 (all_data vs) (data_given t d vs e))
+      (gives_exact _ (λ ds. Every (Has_datum N τ m no_frames t) ds × (length ds ≡ length vs)) 0 (all_data vs) (data_given t d vs e))
       (λ ds q. gives_then (λ r. Has_datum N τ m no_frames (Level (At (Const n)) t) r.1) (Res N types τ W lo (1 + lo) m (s lo)) _ _
-      (gives_exact (λ r. Has_datum N τ m no_frames (Level (At (Const n)) t) r.1) 0 _ (out_then (Has_datum N τ m no_frames (Level (At (Const n)) t)) (λ r. Has_datum N τ m no_frames (Level (At (Const n)) t) r.1) (array false mark row ds) fresh
+      (gives_exact _ (λ r. Has_datum N τ m no_frames (Level (At (Const n)) t) r.1) 0 _ (out_then _ (Has_datum N τ m no_frames (Level (At (Const n)) t)) (λ r. Has_datum N τ m no_frames (Level (At (Const n)) t) r.1) (array false mark row ds) fresh
       (literal_gives t n row mark ds (q.1 ∙ l) (λ z. h (sym q.1 ∙ ap length z)) q.0) (λ x y. y)))
-      (λ r x. gives_exact (Res N types τ W lo (1 + lo) m (s lo)) r.0 (Val (as_value r.1)) (record { now = m; old = λ d o. refl; fits = subst (λ u. Of u (as_value r.1)) same (array_value N types τ W S one m no_frames (At (Const n)) t r.1 x) })))
+      (λ r x. gives_exact _ (Res N types τ W lo (1 + lo) m (s lo)) r.0 (Val (as_value r.1)) (record { now = m; old = λ d o. refl; fits = subst (λ u. Of u (as_value r.1)) same (array_value N types τ W S one m no_frames (At (Const n)) t r.1 x) })))
 
-  no_element : (t : Size) (vs : List FlatValue) → All_fit N τ W.sizing (calls W) m no_frames no_size (values vs) → Every (Of t) vs × (length vs ≡ 0)
+  no_element : (t : Size) (vs : List FlatValue) → All_fit N τ W.sizing W.is_there (calls W) m no_frames no_size (values vs) → Every (Of t) vs × (length vs ≡ 0)
   unfolding All_fit
   no_element t [] h = (tt, refl)
   no_element t (v ∷ vs) h = absurd h
 
-  pub array_fits : (mark : Place) (ts : Terms Ref BindId) (lo : ℕ) (env : FlatEnv) (vs : List FlatValue) → Array_parts N types W lo ts (lo + 1) → All_fit N τ W.sizing (calls W) m no_frames (parts ts (lo + 1)) (values vs)
+  pub array_fits : (mark : Place) (ts : Terms Ref BindId) (lo : ℕ) (env : FlatEnv) (vs : List FlatValue) → Array_parts N types W lo ts (lo + 1) → All_fit N τ W.sizing W.is_there (calls W) m no_frames (parts ts (lo + 1)) (values vs)
       → operation N types Array_of lo (lo + 1) ts (parts ts (lo + 1)) ≡ Ok (s lo)
-      → Gives (Res N types τ W lo (1 + lo) m (s lo)) (operated false (row_told ((flat_names (told W)).lang W.tops) (Of_literal env lo)) (fits_type ((flat_names (told W)).lang W.tops) env lo) (W.integer_at lo) Array_of mark vs)
+      → Gives (There W.is_there) (Res N types τ W lo (1 + lo) m (s lo)) (operated false (row_told ((flat_names (told W)).lang W.tops) (Of_literal env lo)) (fits_type ((flat_names (told W)).lang W.tops) env lo) (W.integer_at lo) Array_of mark vs)
   unfolding All_fit operation
   array_fits mark no_term lo env vs p h e =
       let q = no_element p.0 vs h in

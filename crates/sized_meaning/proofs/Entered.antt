@@ -1,4 +1,5 @@
 -- What is found under names is right where what was entered is.
+use Rattle.fut_scalar.specs.declared.place.Place.{Place}
 use Rattle.std.proofs.Common.{◌≡◌, ℕ, suc, Bool, true, false, ◌&&◌, cond, nat_eq, List, [], ◌∷◌, Option, Some, refl, sym, ap, ◌∙◌, subst, eqb-true}
 use Rattle.std.specs.Prelude.{ℤ, pos, negsuc}
 use Rattle.std.specs.Str.{bytes_eq}
@@ -20,7 +21,8 @@ use Rattle.sized_types.specs.Standing.{is_known, gives_chosen}
 use Rattle.fut_sizes.specs.Rules.{Each_hole, Each_holes}
 use Rattle.fut_sizes.specs.Suiting.{Each, Each_all, Data, All_data}
 use Rattle.sized_meaning.specs.Worth.{Worth, free, Frames, no_frames, push, number as size_number}
-use Rattle.sized_meaning.specs.Shapes.{Meant, exactly, Has_shape, Have_shapes, Have_named, Has_datum}
+use Rattle.sized_meaning.specs.Shapes.{Meant, exactly, Record_names, Has_shape, Have_shapes, Have_named, Has_datum}
+use Rattle.sized_meaning.proofs.Fields.{read_names}
 use Rattle.sized_meaning.specs.Fits.{FlatValues, FlatFields, Is_data, Fits, All_fit, Named_fit}
 use Rattle.sized_meaning.specs.Claims.{calls_of}
 use Rattle.sized_meaning.specs.Finding.{Fields_from, Fields_are, One_kind_each, As_many, Formed, All_formed, Reads, All_read, Named_read}
@@ -67,14 +69,14 @@ field_here f (field_and g w fs) v e = tested (bytes_eq g f) e (λ q. field_here 
     tested true e rest = ap (λ z. Some (value_shape z)) (some_same e)
     tested false e rest = rest e
 
-module _ (N : Names) (τ : Meant) (Z : Sizing) (calls : FlatValue → FlatValue → Rel FlatValue) (m : Worth) (φ : Frames) where
+module _ (N : Names) (τ : Meant) (Z : Sizing) (is_there : Place → Bool) (calls : FlatValue → FlatValue → Rel FlatValue) (m : Worth) (φ : Frames) where
   data_as_read : (t : Size) (v : FlatValue) → Is_data (Has_datum N τ m φ t) v → Reads N τ m φ t (value_shape v)
   data_as_read t v h = subst (Reads N τ m φ t) (sym (shape_as v h.datum h.is_datum)) (data_reads N τ m φ t (shape_of h.datum) (datum_shaped N τ m φ t h.datum h.fits))
 
   mutual
     unfolding Fits All_fit Named_fit Reads All_read Named_read value_shape value_shapes
 
-    pub fits_read : (t : Size) (v : FlatValue) → Fits N τ Z calls m φ t v → Reads N τ m φ t (value_shape v)
+    pub fits_read : (t : Size) (v : FlatValue) → Fits N τ Z is_there calls m φ t v → Reads N τ m φ t (value_shape v)
     fits_read (Hole a) v h = data_as_read (Hole a) v h
     fits_read (Open n a u) v h = tt
     fits_read (Level d t) v h = data_as_read (Level d t) v h
@@ -85,16 +87,16 @@ module _ (N : Names) (τ : Meant) (Z : Sizing) (calls : FlatValue → FlatValue 
     fits_read (Built k ts) v h = tt
     fits_read (Fun k p r) v h = tt
 
-    all_read : (ts : Sizes) (vs : FlatValues) → All_fit N τ Z calls m φ ts vs → All_read N τ m φ ts (value_shapes vs)
+    all_read : (ts : Sizes) (vs : FlatValues) → All_fit N τ Z is_there calls m φ ts vs → All_read N τ m φ ts (value_shapes vs)
     all_read no_size vs h = tt
     all_read (size_and t ts) no_value h = absurd h
     all_read (size_and t ts) (value_and v vs) h = (fits_read t v h.0, all_read ts vs h.1)
 
-    named_read : (n i : ℕ) (ts : Sizes) (fs : FlatFields) → Named_fit N τ Z calls m φ n i ts fs → Named_read N τ m φ n i ts (field_shapes fs)
+    named_read : (n i : ℕ) (ts : Sizes) (fs : FlatFields) → Named_fit N τ Z is_there calls m φ n i ts fs → Named_read N τ m φ n i ts (field_shapes fs)
     named_read n i no_size fs h = tt
     named_read n i (size_and t ts) fs h = ((λ f p. let c = h.0 f p in (value_shape c.0, field_here f fs c.0 c.1, fits_read t c.0 c.2)), named_read n (suc i) ts fs h.1)
 
-module _ (N : Names) (τ : Meant) (Z : Sizing) (calls : FlatValue → FlatValue → Rel FlatValue) (m : Worth) (φ : Frames) where
+module _ (N : Names) (τ : Meant) (Z : Sizing) (is_there : Place → Bool) (calls : FlatValue → FlatValue → Rel FlatValue) (m : Worth) (φ : Frames) where
   data_as_shaped : (t : Size) (v : FlatValue) → Is_data (Has_datum N τ m φ t) v → Has_shape N τ m φ t (value_shape v)
   data_as_shaped t v h = subst (Has_shape N τ m φ t) (sym (shape_as v h.datum h.is_datum)) (datum_shaped N τ m φ t h.datum h.fits)
 
@@ -102,7 +104,7 @@ module _ (N : Names) (τ : Meant) (Z : Sizing) (calls : FlatValue → FlatValue 
     unfolding Fits All_fit Named_fit Has_shape Have_shapes Have_named value_shape value_shapes Data All_data
 
     -- a value of data has the shape of the type
-    pub value_shaped : (t : Size) → Data t → (v : FlatValue) → Fits N τ Z calls m φ t v → Has_shape N τ m φ t (value_shape v)
+    pub value_shaped : (t : Size) → Data t → (v : FlatValue) → Fits N τ Z is_there calls m φ t v → Has_shape N τ m φ t (value_shape v)
     value_shaped (Hole a) d v h = data_as_shaped (Hole a) v h
     value_shaped (Open n a u) d v h = absurd d
     value_shaped (Level x t) d v h = data_as_shaped (Level x t) v h
@@ -118,14 +120,14 @@ module _ (N : Names) (τ : Meant) (Z : Sizing) (calls : FlatValue → FlatValue 
     value_shaped (Built (head.Rigid n k) ts) d v h = absurd h
     value_shaped (Fun k p r) d v h = absurd d
 
-    all_shaped : (ts : Sizes) → All_data ts → (vs : FlatValues) → All_fit N τ Z calls m φ ts vs → Have_shapes N τ m φ ts (value_shapes vs)
+    all_shaped : (ts : Sizes) → All_data ts → (vs : FlatValues) → All_fit N τ Z is_there calls m φ ts vs → Have_shapes N τ m φ ts (value_shapes vs)
     all_shaped no_size d no_value h = tt
     all_shaped no_size d (value_and v vs) h = absurd h
     all_shaped (size_and t ts) d no_value h = absurd h
     all_shaped (size_and t ts) d (value_and v vs) h = (value_shaped t d.0 v h.0, all_shaped ts d.1 vs h.1)
 
-    named_shaped : (n i : ℕ) (ts : Sizes) → All_data ts → (fs : FlatFields) → Named_fit N τ Z calls m φ n i ts fs → Have_named N τ m φ n i ts (field_shapes fs)
-    named_shaped n i no_size d fs h = tt
+    named_shaped : (n i : ℕ) (ts : Sizes) → All_data ts → (fs : FlatFields) → Named_fit N τ Z is_there calls m φ n i ts fs → Have_named N τ m φ n i ts (field_shapes fs)
+    named_shaped n i no_size d fs h = subst (Record_names N n i) (sym (read_names fs)) h
     named_shaped n i (size_and t ts) d fs h = ((λ f p. let c = h.0 f p in (value_shape c.0, field_here f fs c.0 c.1, value_shaped t d.0 c.0 c.2)), named_shaped n (suc i) ts d.1 fs h.1)
 
 pub both_true : (a b : Bool) → a && b ≡ true → (a ≡ true) × (b ≡ true)
@@ -231,7 +233,7 @@ module _ (N : Names) (τ : Meant) (Z : Sizing) (m : Worth) (are : Fields_are N Z
         all_have (size_and t ts) (shape_and h hs) f d k e = let b = both_true (has_sizes Z.fields W t h) (have_sizes Z.fields W ts hs) e in (sizes_have t h f.0 d.0 k.0 b.0, all_have ts hs f.1 d.1 k.1 b.1)
 
         named_have : (n i : ℕ) (ts : Sizes) (fs : List Text) (hs : Named_shapes) → Fields_from N n i fs → As_many fs ts → All_formed Z.fields ts → Each_all (λ j x. Is_found W x) 0 ts → Have_named N τ other no_frames n i ts hs → named_sizes Z.fields W fs ts hs ≡ true → Have_named N τ m no_frames n i ts hs
-        named_have n i no_size fs hs b l f d k e = tt
+        named_have n i no_size fs hs b l f d k e = k
         named_have n i (size_and t ts) [] hs b l f d k e = absurd l
         named_have n i (size_and t ts) (x ∷ fs) hs b l f d k e =
             let a = both_true (if_field (field_shape x hs) (has_sizes Z.fields W t)) (named_sizes Z.fields W fs ts hs) e in (
@@ -281,4 +283,4 @@ coerced_has_its_sizes N named τ Z m other L env lo v sizes formed are one a dim
     sizes_have N (exactly τ) Z m are (exact_kinds τ one) (found Z env) (under N (exactly τ) Z m are (exact_kinds τ one) env a) named other (Z.size_at lo) (value_shape v) formed dims has (subst (λ o. sizes_agree o env lo v ≡ true) sizes test)
 
 pub values_read : ValuesRead
-values_read N τ Z L tight budget m t v h = fits_read N (exactly τ) Z (calls_of L tight budget) m no_frames t v h
+values_read N τ Z L is_there tight budget m t v h = fits_read N (exactly τ) Z is_there (calls_of L tight budget) m no_frames t v h

@@ -1,4 +1,6 @@
 -- The names in scope keep values of their sized types, and what is found under them stays right.
+use Rattle.fut_scalar.specs.declared.report.Report.{Report}
+use Rattle.sized_meaning.specs.There.{There}
 use Rattle.std.proofs.Common.{◌≡◌, ◌⊎◌, ℕ, zero, suc, ◌<◌, ◌≤◌, [], ◌∷◌, Bool, true, false, ◌&&◌, ◌||◌, cond, nat_eq, Option, Some, None, refl, sym, ap, ◌∙◌, subst, arith, inl, inr, eqb-true, eq-eqb, ltb-true, ◌+◌}
 use Rattle.std.specs.Prelude.{ℤ, pos, nat_lt}
 use Rattle.fut_scalar.specs.declared.place.BindId.{BindId}
@@ -27,7 +29,7 @@ use Rattle.sized_meaning.specs.Shapes.{Meant, Has_shape}
 use Rattle.sized_meaning.specs.Finding.{One_kind_each, Well_formed, Reads}
 use Rattle.sized_meaning.specs.Entered.{none_chosen}
 use Rattle.sized_meaning.specs.Fits.{word, Fits}
-use Rattle.sized_meaning.specs.Law.{Sound, One_type, World, calls, Beyond, Env_fits}
+use Rattle.sized_meaning.specs.Law.{Sound, One_type, World, calls, Beyond, Named_at, Env_fits}
 use Rattle.sized_meaning.proofs.Reading.{fits_same, each_as}
 use Rattle.std.proofs.lemmas.Bool.{ne_eqb}
 use Rattle.sized_meaning.proofs.Known.{tells_one}
@@ -147,7 +149,7 @@ number_here t e = absurd (let x : false ≡ true = e in cc)
 
 module _ (N : Names) (τ : Meant) (W : World) (m : Worth) (φ : Frames) where
   -- a whole number is worth one
-  pub number_value : (t : Size) (v : FlatValue) → Fits N τ W.sizing (calls W) m φ t v → is_whole t ≡ true → (z : ℤ) × (worth_of v ≡ Some z)
+  pub number_value : (t : Size) (v : FlatValue) → Fits N τ W.sizing W.is_there (calls W) m φ t v → is_whole t ≡ true → (z : ℤ) × (worth_of v ≡ Some z)
   unfolding Fits
   number_value (Built (head.Scalar (sort.Int i)) ts) (Scalar_value (scalar.Int t n)) h e = (integer_of t n, refl)
   number_value (Built (head.Scalar (sort.Int i)) ts) (Scalar_value (scalar.Bool b)) h e = absurd (let x : sort.Bool ≡ sort.Int i = h in cc)
@@ -162,7 +164,7 @@ module _ (N : Names) (types : Sub) (τ : Meant) (W : World) where
   home b = W.sizing.home b
 
   abbrev Of : Worth → Size → FlatValue → Type 0
-  Of m t v = Fits N τ W.sizing (calls W) m no_frames t v
+  Of m t v = Fits N τ W.sizing W.is_there (calls W) m no_frames t v
 
   abbrev In_nodes : ℕ → ℕ → Free → Type 0
   In_nodes lo hi d = Inside N types W.sizing.size_at W.sizing.home lo hi d
@@ -206,8 +208,15 @@ module _ (N : Names) (types : Sub) (τ : Meant) (W : World) where
   beyond_node lo F m (Unknown n i) o = ap (λ b. cond b (F i) (m (Unknown n i))) (ne_eqb n lo (λ e. o (omega (arith, e), omega (arith, e))))
   beyond_node lo F m (Slot i) o = refl
 
+  -- a report is quiet where the environment fits
+  abbrev pub Quiet : ℕ → ℕ → Context → FlatEnv → Report → Type 0
+  Quiet lo hi G env r = ((m : Worth) × Env_fits N types τ W lo hi m G env) → There W.is_there r
+
   pub fits_away : (lo hi : ℕ) (m m' : Worth) (t : Size) (v : FlatValue) → Apart lo hi t → ((d : Free) → Out_of lo hi d → m' d ≡ m d) → Of m t v → Of m' t v
-  fits_away lo hi m m' t v a old h = fits_same (Out_of lo hi) m m' N τ W.sizing (calls W) (λ d o. sym (old d o)) t 0 no_frames no_frames a (λ j i lt. refl) v h
+  fits_away lo hi m m' t v a old h = fits_same (Out_of lo hi) m m' N τ W.sizing W.is_there (calls W) (λ d o. sym (old d o)) t 0 no_frames no_frames a (λ j i lt. refl) v h
+
+  pub named_wider : (lo hi lo' hi' : ℕ) → lo ≤ lo' → hi' ≤ hi → (d : Free) → Named_at N types τ W lo' hi' d → Named_at N types τ W lo hi d
+  named_wider lo hi lo' hi' p q d k = let x = k.1 in let y = k.2 in (k.0, omega (arith, p, x), omega (arith, q, y), k.3)
 
   pub env_moves : (lo hi lo' hi' : ℕ) (m m' : Worth) (G : Context) (env : FlatEnv) → lo ≤ lo' → hi' ≤ hi → ((d : Free) → Out_of lo hi d → m' d ≡ m d) → Env_fits N types τ W lo hi m G env → Env_fits N types τ W lo' hi' m' G env
   env_moves lo hi lo' hi' m m' G env p q old E = record {
@@ -218,7 +227,7 @@ module _ (N : Names) (types : Sub) (τ : Meant) (W : World) where
     fresh = λ b v i l. E.fresh b v (inside_wider lo hi lo' hi' p q (Name b) i) l;
     sizes_right = λ d n e. let r = E.sizes_right d n e in (r.0 ∙ sym (free_is m' m d (old d r.1)), outside_narrower lo hi lo' hi' p q d r.1);
     types_right = E.types_right;
-    finds = E.finds;
+    finds = λ d k e. E.finds d (named_wider lo hi lo' hi' p q d k) e;
     finds_types = E.finds_types;
   }
 
@@ -240,7 +249,7 @@ module _ (N : Names) (types : Sub) (τ : Meant) (W : World) where
     fresh = λ k x i l. fresh k x (nat_eq b.0 k) refl i l;
     sizes_right = E.sizes_right;
     types_right = E.types_right;
-    finds = λ d e. finds d (is_name b.0 d) refl e;
+    finds = λ d k e. finds d k (is_name b.0 d) refl e;
     finds_types = E.finds_types;
   }
     where
@@ -264,9 +273,9 @@ module _ (N : Names) (types : Sub) (τ : Meant) (W : World) where
       fresh k x true q i l = o (subst (λ n. In_nodes lo hi (Name n)) (sym (eqb-true b.0 k q)) i)
       fresh k x false q i l = E.fresh k x i l
 
-      finds : (d : Free) (c : Bool) → is_name b.0 d ≡ c → cond c (is_number t) (G.finds d) ≡ true → (n : ℤ) × ((found W.sizing env).size d ≡ Some n)
-      finds d true q e = subst (λ x. (n : ℤ) × ((found W.sizing env).size x ≡ Some n)) (sym (is_the_name b.0 d q)) (number_found e)
-      finds d false q e = E.finds d e
+      finds : (d : Free) → Named_at N types τ W lo hi d → (c : Bool) → is_name b.0 d ≡ c → cond c (is_number t) (G.finds d) ≡ true → (n : ℤ) × ((found W.sizing env).size d ≡ Some n)
+      finds d k true q e = subst (λ x. (n : ℤ) × ((found W.sizing env).size x ≡ Some n)) (sym (is_the_name b.0 d q)) (number_found e)
+      finds d k false q e = E.finds d k e
 
   -- sizes that a parameter chooses have names, and no values
   pub env_positions : (lo mid hi : ℕ) (m : Worth) (G : Context) (env : FlatEnv) (position : Free → Option ℕ) → mid ≤ hi → ((d : Free) (i : ℕ) → position d ≡ Some i → In_nodes lo mid d) → Env_fits N types τ W lo hi m G env → Apart mid hi i64_size
@@ -279,7 +288,7 @@ module _ (N : Names) (types : Sub) (τ : Meant) (W : World) where
     fresh = λ k x i z. E.fresh k x (inside_wider lo hi mid hi l (omega arith) (Name k) i) z;
     sizes_right = (env_moves lo hi mid hi m m' G env l (omega arith) old E).sizes_right;
     types_right = E.types_right;
-    finds = E.finds;
+    finds = λ d k e. E.finds d (named_wider lo hi mid hi l (omega arith) d k) e;
     finds_types = E.finds_types;
   }
     where
@@ -314,7 +323,7 @@ module _ (N : Names) (types : Sub) (τ : Meant) (W : World) where
     told_reads k p r v f e h =
         let b = both_true (is_known p) (gives_chosen k r) e in
         let z = low_data k r b.1 in
-        data_reads N τ m (push none_chosen no_frames) r _ (tells_one N τ W.sizing m no_frames k p r v z.0 z.1 (function_of N τ W.sizing (calls W) m k p r v h).0 none_chosen (chosen_shape W.sizing.fields p) (known_shape p b.0 f))
+        data_reads N τ m (push none_chosen no_frames) r _ (tells_one N τ W.sizing m no_frames k p r v z.0 z.1 (function_of N τ W.sizing W.is_there (calls W) m k p r v h).0 none_chosen (chosen_shape W.sizing.fields p) (known_shape p b.0 f))
 
     results_right : (t : Size) (v : FlatValue) (V : Found) → Well_formed W.sizing.fields t → Apart lo hi t → Of m t v → Right_before V → Right_before (with_results W.sizing.fields t (tells W.sizing v) V)
     unfolding with_results Well_formed Each
@@ -415,7 +424,7 @@ module _ (N : Names) (types : Sub) (τ : Meant) (W : World) where
     pub entered_right : (q : ℕ) (env : FlatEnv) (v : FlatValue) → Right_before (found W.sizing env) → Of m (s q) v → Apart lo hi (s q) → Named_here q v → Right_before (found W.sizing (entered q v env))
     unfolding found
     entered_right q env v r h a named =
-        worth_right q v _ named (data_right 0 no_frames (s q) (value_shape v) _ a (fits_read N τ W.sizing (calls W) m no_frames (s q) v h) (results_right (s q) v (found W.sizing env) (S.formed q) a h r))
+        worth_right q v _ named (data_right 0 no_frames (s q) (value_shape v) _ a (fits_read N τ W.sizing W.is_there (calls W) m no_frames (s q) v h) (results_right (s q) v (found W.sizing env) (S.formed q) a h r))
 
     -- what a value of its node's type shows and tells, above what was found
     abbrev Shown : ℕ → FlatEnv → FlatValue → Found
@@ -453,17 +462,17 @@ module _ (N : Names) (types : Sub) (τ : Meant) (W : World) where
           fresh = E.fresh;
           sizes_right = right.0;
           types_right = right.1;
-          finds = λ d e. size_entered q env v d h (size_known d (either (stands (s q) d) (stands_told (s q) d || G.finds d) e));
+          finds = λ d k e. size_entered q env v d h (size_known d k (either (stands (s q) d) (stands_told (s q) d || G.finds d) e));
           finds_types = λ b e. type_found b (either (has_hole (s q) b) (has_told (s q) b || G.finds_types b) e);
         }
       where
-        size_known : (d : Free) → (stands (s q) d ≡ true) ⊎ (stands_told (s q) d || G.finds d ≡ true) → (stands (s q) d ≡ true) ⊎ ((stands_told (s q) d ≡ true) ⊎ ((n : ℤ) × ((found W.sizing env).size d ≡ Some n)))
-        size_known d (inl e) = inl e
-        size_known d (inr e) = inr (by_told (either (stands_told (s q) d) (G.finds d) e))
+        size_known : (d : Free) → Named_at N types τ W lo hi d → (stands (s q) d ≡ true) ⊎ (stands_told (s q) d || G.finds d ≡ true) → (stands (s q) d ≡ true) ⊎ ((stands_told (s q) d ≡ true) ⊎ ((n : ℤ) × ((found W.sizing env).size d ≡ Some n)))
+        size_known d k (inl e) = inl e
+        size_known d k (inr e) = inr (by_told (either (stands_told (s q) d) (G.finds d) e))
           where
             by_told : (stands_told (s q) d ≡ true) ⊎ (G.finds d ≡ true) → (stands_told (s q) d ≡ true) ⊎ ((n : ℤ) × ((found W.sizing env).size d ≡ Some n))
             by_told (inl e) = inl e
-            by_told (inr e) = inr (E.finds d e)
+            by_told (inr e) = inr (E.finds d k e)
 
         type_found : (b : Variable) → (has_hole (s q) b ≡ true) ⊎ (has_told (s q) b || G.finds_types b ≡ true) → (g : Shape) × ((with_data W.sizing.fields (s q) (value_shape v) (with_results W.sizing.fields (s q) (tells W.sizing v) (found W.sizing env))).type b ≡ Some g)
         type_found b (inl e) = some_place (type_place W.sizing.fields b (s q)) (λ p. at_path p (value_shape v)) _ (type_placed W.sizing.fields b (s q) (S.formed q) e)

@@ -1,4 +1,6 @@
 -- Sizings that meet their rules.
+use Rattle.sized_meaning.proofs.Quiet.{term_anywhere}
+use Rattle.sized_meaning.specs.There.{There, anywhere}
 use Rattle.std.proofs.Common.{◌≡◌, ◌⊎◌, ℕ, zero, suc, ◌+◌, ◌<◌, [], ◌∷◌, true, false, Option, Some, None, refl, ap, arith, inl, inr, Bool, cond, nat_eq, sym, subst, eqb-true}
 use Rattle.fut_scalar.specs.declared.place.Place.{Place}
 use Rattle.fut_scalar.specs.declared.scalar.IntType.TheVariants as int
@@ -115,7 +117,7 @@ abbrev five_types : Sub
 five_types n = erased (five_sizes n)
 
 abbrev five_world : FlatTops → World
-five_world tops = record { integer_at = λ n. int.I64; sizing = record { size_at = five_sizes; home = home; fields = λ n. []; is_size = λ b. false; used = λ n. None }; tops = tops; tight = false; budget = 0 }
+five_world tops = record { integer_at = λ n. int.I64; sizing = record { size_at = five_sizes; home = home; fields = λ n. []; is_size = λ b. false; used = λ n. None }; tops = tops; tight = false; budget = 0; is_there = λ at. true }
 
 abbrev nothing_known : Context
 nothing_known = record { sizes = λ b. None; schemes = λ b. None; general = λ b v. false; finds = λ d. false; finds_types = λ v. false }
@@ -175,7 +177,7 @@ module _ (N : Names) (named : AreNames N) (τ : Variable → Shape) (one : One_s
     fresh = λ b v i l. let x = i.1 in absurd (omega (arith, x));
     sizes_right = λ d n e. none_no e;
     types_right = λ v h e. none_no e;
-    finds = λ d e. absurd (let z : false ≡ true = e in cc);
+    finds = λ d k e. absurd (let z : false ≡ true = e in cc);
     finds_types = λ v e. absurd (let z : false ≡ true = e in cc);
   }
 
@@ -184,8 +186,8 @@ module _ (N : Names) (named : AreNames N) (τ : Variable → Shape) (one : One_s
   five_plain = (tt, (refl, tt), tt)
 
   -- each value that it gives is an array of five numbers
-  iota_gives_five : (m : Worth) → Gives (Result N five_types (exactly τ) (five_world tops) 0 3 m (Level (At (Const 5)) i64_size)) (means (five_world tops) (Evaluate (base tt) 0 iota_five))
-  iota_gives_five m = values_have_their_sizes N five_types τ (five_world tops) iota_five 0 nothing_known (base tt) m five_sound one five_plain five_sized (five_env m)
+  iota_gives_five : (m : Worth) → Gives (There anywhere) (Result N five_types (exactly τ) (five_world tops) 0 3 m (Level (At (Const 5)) i64_size)) (means (five_world tops) (Evaluate (base tt) 0 iota_five))
+  iota_gives_five m = values_have_their_sizes N five_types τ (five_world tops) iota_five 0 nothing_known (base tt) m five_sound one five_plain (term_anywhere iota_five) five_sized (five_env m)
 
 -- ---- `let (a, b) = (k, k) in a`: 0 is the let, 1 to 3 are the pattern and its parts a and b, 4 is the pair, 5 to 7 are uses; in the
 -- scope are the size n and k, an array of that size

@@ -17,7 +17,9 @@ use Rattle.sized_types.specs.Standing.{stands, some_stands, has_hole, some_hole}
 use Rattle.fut_sizes.specs.Rules.{Each_hole, Each_holes}
 use Rattle.fut_sizes.specs.Suiting.{Each, Each_all, Scoped, Data, All_data}
 use Rattle.sized_meaning.specs.Worth.{Worth, Frames, number}
-use Rattle.sized_meaning.specs.Shapes.{Meant, exactly, Has_shape, Have_shapes, Have_named}
+use Rattle.sized_meaning.specs.Shapes.{Meant, exactly, Record_names, shape_names, Has_shape, Have_shapes, Have_named}
+use Rattle.sized_meaning.proofs.Fields.{record_put, shape_put, absent_shape}
+use Rattle.fut_sizes.specs.Operations.{many}
 use Rattle.sized_meaning.specs.Finding.{Reads, All_read, Named_read, Fields_from, Fields_are, One_shape_each, One_kind_each, As_many, Formed, All_formed, Well_formed, All_well_formed, FoundIsRight, StandingIsFound, ToldIsRight}
 
 pub some_same : {A : Type 0} {a b : A} → Some a ≡ Some b → a ≡ b
@@ -288,6 +290,18 @@ module _ (N : Names) (fields : ℕ → List Text) (are : Fields_are N fields) (�
       put_else f g k (named_shapes fs hs) (λ e. let z : i ≡ j = some_same (sym b.0 ∙ subst (λ x. label_place N.shapes (N.label x) (head.Record n) ≡ Some j) e p) in omega (arith, z, lt))
       ∙ not_among n (suc i) j fs hs f b.1 p (omega (arith, lt))
 
+  -- the names of what is told of a record are those of its fields
+  names_told : (n i : ℕ) (fs : List Text) (ts : Sizes) (sizes : Dim → ℕ) (shapes : Variable → Shape) → Fields_from N n i fs → As_many fs ts → Record_names N n (many ts + i) (shape_names (named_shapes fs (told_shapes fields sizes shapes ts)))
+  unfolding told_shapes
+  names_told n i [] no_size sizes shapes b l = (tt, tt)
+  names_told n i [] (size_and t ts) sizes shapes b l = absurd l
+  names_told n i (x ∷ fs) no_size sizes shapes b l = absurd l
+  names_told n i (x ∷ fs) (size_and t ts) sizes shapes b l =
+      subst (Record_names N n (many (size_and t ts) + i)) (sym (shape_put x (told_shape fields sizes shapes t) (named_shapes fs (told_shapes fields sizes shapes ts))))
+      (record_put N n (many (size_and t ts) + i) x (shape_names (named_shapes fs (told_shapes fields sizes shapes ts))) i b.0 (omega arith)
+      (absent_shape x (named_shapes fs (told_shapes fields sizes shapes ts)) (not_among n (suc i) i fs (told_shapes fields sizes shapes ts) x b.1 b.0 (omega arith)))
+      (subst (λ k. Record_names N n k (shape_names (named_shapes fs (told_shapes fields sizes shapes ts)))) (let z : many ts + suc i ≡ many (size_and t ts) + i = omega arith in z) (names_told n (suc i) fs ts sizes shapes b.1 l)))
+
   -- parts are told right where each field is found as among the names from here on
   abbrev Sees : ℕ → ℕ → Named_shapes → Named_shapes → Type 0
   Sees n i all these = (f : Text) (j : ℕ) → label_place N.shapes (N.label f) (head.Record n) ≡ Some j → i ≤ j → field_shape f all ≡ field_shape f these
@@ -302,7 +316,7 @@ module _ (N : Names) (fields : ℕ → List Text) (are : Fields_are N fields) (�
       told_right (Level x t) f d e = (d.0, told_right t f d.1 e)
       told_right (Built (head.Scalar s) ts) f d e = refl
       told_right (Built head.Tuple ts) f d e = all_told ts f.1 d e
-      told_right (Built (head.Record n) ts) f d e = fields_told n 0 ts (fields n) (named_shapes (fields n) (told_shapes fields sizes shapes ts)) (are n) f.0 f.1 d e (λ g j p l. refl)
+      told_right (Built (head.Record n) ts) f d e = fields_told n 0 ts (fields n) (named_shapes (fields n) (told_shapes fields sizes shapes ts)) (are n) f.0 f.1 d e (λ g j p l. refl) (names_told n 0 (fields n) ts sizes shapes (are n) f.0)
       told_right (Built (head.Abstract n k) ts) f d e = absurd f.0
       told_right (Built head.Array ts) f d e = absurd f.0
       told_right (Built head.Fun ts) f d e = absurd f.0
@@ -314,12 +328,12 @@ module _ (N : Names) (fields : ℕ → List Text) (are : Fields_are N fields) (�
       all_told (size_and t ts) f d e = (told_right t f.0 d.0 e.0, all_told ts f.1 d.1 e.1)
 
       fields_told : (n i : ℕ) (ts : Sizes) (fs : List Text) (all : Named_shapes) → Fields_from N n i fs → As_many fs ts → All_formed fields ts → Each_all (λ j d. sizes d ≡ number m φ d) 0 ts → Each_holes (λ v. (τ v).shape (shapes v)) ts
-          → Sees n i all (named_shapes fs (told_shapes fields sizes shapes ts)) → Have_named N τ m φ n i ts all
-      fields_told n i no_size fs all b l f d e sees = tt
-      fields_told n i (size_and t ts) [] all b l f d e sees = absurd l
-      fields_told n i (size_and t ts) (x ∷ fs) all b l f d e sees = (
+          → Sees n i all (named_shapes fs (told_shapes fields sizes shapes ts)) → Record_names N n (many ts + i) (shape_names all) → Have_named N τ m φ n i ts all
+      fields_told n i no_size fs all b l f d e sees names = subst (λ k. Record_names N n k (shape_names all)) (let z : many no_size + i ≡ i = omega arith in z) names
+      fields_told n i (size_and t ts) [] all b l f d e sees names = absurd l
+      fields_told n i (size_and t ts) (x ∷ fs) all b l f d e sees names = (
         λ g p. (told_shape fields sizes shapes t, sees g i p (omega arith) ∙ here g p (told_shapes fields sizes shapes ts), told_right t f.0 d.0 e.0),
-        fields_told n (suc i) ts fs all b.1 l f.1 d.1 e.1 (λ g j p lt. sees g j p (omega (arith, lt)) ∙ put_else g x (told_shape fields sizes shapes t) (named_shapes fs (told_shapes fields sizes shapes ts)) (other g j p lt)),
+        fields_told n (suc i) ts fs all b.1 l f.1 d.1 e.1 (λ g j p lt. sees g j p (omega (arith, lt)) ∙ put_else g x (told_shape fields sizes shapes t) (named_shapes fs (told_shapes fields sizes shapes ts)) (other g j p lt)) (subst (λ k. Record_names N n k (shape_names all)) (let z : many (size_and t ts) + i ≡ many ts + suc i = omega arith in z) names),
       )
         where
           other : (g : Text) (j : ℕ) → label_place N.shapes (N.label g) (head.Record n) ≡ Some j → suc i ≤ j → g ≡ x → ⊥

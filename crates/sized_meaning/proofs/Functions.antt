@@ -1,4 +1,5 @@
 -- Functions written in a term are of their sized types.
+use Rattle.sized_meaning.specs.There.{There}
 use Rattle.std.specs.Prelude.{ℤ, pos}
 use Rattle.std.proofs.Common.{◌≡◌, ◌⊎◌, ℕ, ◌+◌, ◌-◌, ◌<◌, ◌≤◌, suc, List, [], ◌∷◌, Bool, true, false, cond, nat_eq, Option, Some, None, refl, sym, ap, ◌∙◌, subst, arith, inl, inr, eq-eqb, eqb-true}
 use Rattle.std.proofs.lemmas.Bool.{eqb-false}
@@ -22,7 +23,7 @@ use Rattle.sized_types.specs.Standing.{stands, has_hole}
 use Rattle.fut_sizes.specs.Agreeing.{left, leave, is_among, names_one}
 use Rattle.fut_sizes.specs.Functions.{value_name}
 use Rattle.fut_sizes.specs.Scopes.{i64_size, names}
-use Rattle.fut_sizes.specs.Scoping.{Context, with_entered, with_positions, with_pattern}
+use Rattle.fut_sizes.specs.Scoping.{Context, with_positions, with_pattern}
 use Rattle.fut_sizes.specs.Sizing.{part_names, all_part_names}
 use Rattle.fut_sizes.specs.Suiting.{Each, Each_all, Scoped, Of_positions, Data}
 use Rattle.fut_sizes.specs.Rules.{Any_free, Inside, Away, Each_hole, Binder, Tells_size, Tells_type, Telling, Takes, Sized, Named_value}
@@ -31,7 +32,8 @@ use Rattle.sized_meaning.specs.Shapes.{Meant, Has_shape}
 use Rattle.sized_meaning.specs.Finding.{One_kind_each, Well_formed}
 use Rattle.sized_meaning.specs.Entered.{Is_found, Type_is_found}
 use Rattle.sized_meaning.specs.Fits.{Out_fits, Gives, word, Flat_result, Known_result, Told_right, Tells_right, Fits}
-use Rattle.sized_meaning.specs.Law.{Sound, Name_home, Simple, All_simple, Leaves, World, told, means, calls, Beyond as Out_beyond, Env_fits, Result as Res}
+use Rattle.sized_meaning.specs.Law.{Sound, Name_home, Simple, All_simple, Leaves, World, told, means, calls, Beyond as Out_beyond, Named_at, Env_fits, Result as Res}
+use Rattle.sized_meaning.proofs.Named.{On_free, each_named}
 use Rattle.sized_meaning.proofs.Ways.{gives_as}
 use Rattle.sized_meaning.proofs.Outcomes.{gives_exact, gives_then}
 use Rattle.sized_meaning.proofs.Reading.{flat_result_replaced, each_and, each_replaced, each_as, each_data, each_hole_as, data_replaced, shape_same, shape_opened, opened_shape, shape_renamed_in, fits_same, fits_opened, opened_fits, fits_renamed}
@@ -196,7 +198,7 @@ module _ (N : Names) (types : Sub) (τ : Meant) (W : World) (S : Sound N types W
   Beyond lo hi d = Out_beyond N types τ W lo hi d
 
   abbrev Of : Worth → Size → FlatValue → Type 0
-  Of m t v = Fits N τ W.sizing (calls W) m no_frames t v
+  Of m t v = Fits N τ W.sizing W.is_there (calls W) m no_frames t v
 
   -- what names and nodes may be worth under an environment
   abbrev Worths : ℕ → ℕ → Context → FlatEnv → Type 0
@@ -207,7 +209,7 @@ module _ (N : Names) (types : Sub) (τ : Meant) (W : World) (S : Sound N types W
 
   -- ---- functions
   abbrev pub Body_law : FlatTerm → ℕ → ℕ → Type 0
-  Body_law e at hi = (G : Context) (env : FlatEnv) (m : Worth) → Sized N types W.sizing.size_at W.sizing.home e at G → Env_of at hi m G env → Gives (R_of at hi m (s at)) (means W (Evaluate env at e))
+  Body_law e at hi = (G : Context) (env : FlatEnv) (m : Worth) → Sized N types W.sizing.size_at W.sizing.home e at G → Env_of at hi m G env → Gives (There W.is_there) (R_of at hi m (s at)) (means W (Evaluate env at e))
 
   free_made : (lo hi : ℕ) (m : Worth) (d : Free) → Inside N types W.sizing.size_at W.sizing.home lo hi d → free m d ≡ m d
   free_made lo hi m (Const c) i = absurd i
@@ -274,13 +276,13 @@ module _ (N : Names) (types : Sub) (τ : Meant) (W : World) (S : Sound N types W
     kept = subst (λ x. Each (Scoped (λ d. (B.position d ≡ None) × Beyond at hi d × Beyond lo (1 + lo) d)) 0 x) B.function B.kept
 
     -- the argument under what is then met
-    taken : (v : FlatValue) → Fits N τ W.sizing (calls W) m (push F no_frames) B.from v → Of (placed_as B.position F m) (s q) v
+    taken : (v : FlatValue) → Fits N τ W.sizing W.is_there (calls W) m (push F no_frames) B.from v → Of (placed_as B.position F m) (s q) v
     taken v h = subst (λ x. Of (placed_as B.position F m) x v) (sym B.parameter)
-        (fits_opened N τ (placed_as B.position F m) B.inside (λ i. i < B.chosen) (λ d. (B.position d ≡ None) × Beyond at hi d × Beyond lo (1 + lo) d) F B.from B.low kept.0 (λ i l. position_worth i (omega (arith, l))) W.sizing (calls W) no_frames no_frames v
-        (fits_same (λ d. (B.position d ≡ None) × Beyond at hi d × Beyond lo (1 + lo) d) m (placed_as B.position F m) N τ W.sizing (calls W) (λ d k. sym (placed_none B.position F m d k.0)) B.from 1 (push F no_frames) (push F no_frames) kept.0 (λ j i l. refl) v h))
+        (fits_opened N τ (placed_as B.position F m) B.inside (λ i. i < B.chosen) (λ d. (B.position d ≡ None) × Beyond at hi d × Beyond lo (1 + lo) d) F B.from B.low kept.0 (λ i l. position_worth i (omega (arith, l))) W.sizing W.is_there (calls W) no_frames no_frames v
+        (fits_same (λ d. (B.position d ≡ None) × Beyond at hi d × Beyond lo (1 + lo) d) m (placed_as B.position F m) N τ W.sizing W.is_there (calls W) (λ d k. sym (placed_none B.position F m d k.0)) B.from 1 (push F no_frames) (push F no_frames) kept.0 (λ j i l. refl) v h))
 
     abbrev Given_back : FlatValue → Type 0
-    Given_back w = (F' : ℕ → ℕ) × ((i : ℕ) → i ≤ B.chosen → F' i ≡ F i) × Fits N τ W.sizing (calls W) m (push F' no_frames) B.to w
+    Given_back w = (F' : ℕ → ℕ) × ((i : ℕ) → i ≤ B.chosen → F' i ≡ F i) × Fits N τ W.sizing W.is_there (calls W) m (push F' no_frames) B.to w
 
     -- inside the function its parts are worth what they are: they stand nowhere in what it gives
     module _ (before : 1 + lo ≤ q) (parts : List ℕ) (sub : (c : ℕ) → is_among parts c ≡ false → is_among (part_names p) c ≡ false) (v : FlatValue) where
@@ -294,9 +296,9 @@ module _ (N : Names) (types : Sub) (τ : Meant) (W : World) (S : Sound N types W
       back now old w unnamed h = (
         frame,
         agrees,
-        fits_same (λ d. Kept d × (names_one parts (At d) ≡ false)) now m N τ W.sizing (calls W) (λ d k. let x = k.0 in old d x.1 x.2 ∙ inner_else d k.1 ∙ placed_none B.position F m d x.0) B.to 1 (push frame no_frames) (push frame no_frames) all_kept (λ j i l. refl) w
+        fits_same (λ d. Kept d × (names_one parts (At d) ≡ false)) now m N τ W.sizing W.is_there (calls W) (λ d k. let x = k.0 in old d x.1 x.2 ∙ inner_else d k.1 ∙ placed_none B.position F m d x.0) B.to 1 (push frame no_frames) (push frame no_frames) all_kept (λ j i l. refl) w
             (opened_fits N τ now B.inside (λ i. names_one parts (At (B.inside i)) ≡ false) Kept frame B.to
-            (each_as (λ j d. (names_one parts d ≡ false) × Of_positions (λ i. names_one parts (At (B.inside i)) ≡ false) j d) (Of_positions (λ i. names_one parts (At (B.inside i)) ≡ false)) (λ j d e. e.1) B.to 1 apart_here) kept.1 frame_is W.sizing (calls W) no_frames no_frames w h),
+            (each_as (λ j d. (names_one parts d ≡ false) × Of_positions (λ i. names_one parts (At (B.inside i)) ≡ false) j d) (Of_positions (λ i. names_one parts (At (B.inside i)) ≡ false)) (λ j d e. e.1) B.to 1 apart_here) kept.1 frame_is W.sizing W.is_there (calls W) no_frames no_frames w h),
       )
         where
           frame : ℕ → ℕ
@@ -356,29 +358,29 @@ module _ (N : Names) (types : Sub) (τ : Meant) (W : World) (S : Sound N types W
       data_from : Data B.from
       data_from = (data_replaced (given B.inside) B.from 1).1 (subst Data B.parameter data_taken)
 
-      size_known : (d : Free) → (stands (s q) d ≡ true) ⊎ (G.finds d ≡ true) → (n : ℤ) × (V.size d ≡ Some n)
-      size_known d (inl e) = some_place (size_place W.sizing.fields (At d) (s q)) (λ p. pos (size_of (at_path p h))) ((found W.sizing env).size d) (size_placed W.sizing.fields d (s q) (S.formed q) e)
-      size_known d (inr e) = some_else (size_place W.sizing.fields (At d) (s q)) (λ p. pos (size_of (at_path p h))) ((found W.sizing env).size d) (E.finds d e)
+      size_known : (d : Free) → Named_at N types τ W q hi d → (stands (s q) d ≡ true) ⊎ (G.finds d ≡ true) → (n : ℤ) × (V.size d ≡ Some n)
+      size_known d k (inl e) = some_place (size_place W.sizing.fields (At d) (s q)) (λ p. pos (size_of (at_path p h))) ((found W.sizing env).size d) (size_placed W.sizing.fields d (s q) (S.formed q) e)
+      size_known d k (inr e) = some_else (size_place W.sizing.fields (At d) (s q)) (λ p. pos (size_of (at_path p h))) ((found W.sizing env).size d) (E.finds d k e)
 
-      dim_known : (d : Dim) → Scoped (Tells_size N types W.sizing.size_at W.sizing.home q G) 0 d → Is_found V d
+      dim_known : (d : Dim) → Scoped (Tells_size N types W.sizing.size_at W.sizing.home q G) 0 d × On_free (Named_at N types τ W q hi) d → Is_found V d
       dim_known (At (Const c)) w = tt
-      dim_known (At (Name b)) w = size_known (Name b) w
-      dim_known (At (Own n i)) w = size_known (Own n i) w
-      dim_known (At (Unknown n i)) w = size_known (Unknown n i) w
-      dim_known (At (Slot i)) w = size_known (Slot i) w
-      dim_known (Bound k i) w = absurd (omega (arith, w))
+      dim_known (At (Name b)) w = size_known (Name b) w.1 w.0
+      dim_known (At (Own n i)) w = size_known (Own n i) w.1 w.0
+      dim_known (At (Unknown n i)) w = size_known (Unknown n i) w.1 w.0
+      dim_known (At (Slot i)) w = size_known (Slot i) w.1 w.0
+      dim_known (Bound k i) w = absurd (let z = w.0 in omega (arith, z))
 
       type_known : (a : Variable) → (has_hole (s q) a ≡ true) ⊎ (G.finds_types a ≡ true) → Type_is_found V a
       type_known a (inl e) = some_place (type_place W.sizing.fields a (s q)) (λ p. at_path p h) ((found W.sizing env).type a) (type_placed W.sizing.fields a (s q) (S.formed q) e)
       type_known a (inr e) = some_else (type_place W.sizing.fields a (s q)) (λ p. at_path p h) ((found W.sizing env).type a) (E.finds_types a e)
 
-      told_body : (t : Size) → Data t → Well_formed W.sizing.fields t → Each (Scoped (Tells_size N types W.sizing.size_at W.sizing.home q G)) 0 t → Each_hole (Tells_type N types W.sizing.size_at W.sizing.home q G) t
+      told_body : (t : Size) → Data t → Well_formed W.sizing.fields t → Each (Scoped (Tells_size N types W.sizing.size_at W.sizing.home q G)) 0 t → Each (λ j. On_free (Named_at N types τ W q hi)) 0 t → Each_hole (Tells_type N types W.sizing.size_at W.sizing.home q G) t
           → Has_shape N τ (placed_as B.position F m) no_frames t (told_shape W.sizing.fields (number V) (shape_found V) t)
-      told_body t d f sizes holes = told_found N τ W.sizing (placed_as B.position F m) S.fields one S.names V
+      told_body t d f sizes there holes = told_found N τ W.sizing (placed_as B.position F m) S.fields one S.names V
           (data_right N τ W.sizing (placed_as B.position F m) S.fields one no_frames (s q) h (found W.sizing env) (data_reads N τ (placed_as B.position F m) no_frames (s q) h (shape_taken h hx)) ((λ d n e. (moved.sizes_right d n e).0), moved.types_right))
-          t (data_formed W.sizing.fields t d f) (each_data (Scoped (Tells_size N types W.sizing.size_at W.sizing.home q G)) (λ j x. Is_found V x) dim_known t d sizes) (each_hole_as (Tells_type N types W.sizing.size_at W.sizing.home q G) (Type_is_found V) type_known t holes)
+          t (data_formed W.sizing.fields t d f) (each_data (λ j d. Scoped (Tells_size N types W.sizing.size_at W.sizing.home q G) j d × On_free (Named_at N types τ W q hi) d) (λ j x. Is_found V x) dim_known t d (each_and (Scoped (Tells_size N types W.sizing.size_at W.sizing.home q G)) (λ j. On_free (Named_at N types τ W q hi)) t 0 sizes there)) (each_hole_as (Tells_type N types W.sizing.size_at W.sizing.home q G) (Type_is_found V) type_known t holes)
 
-    module _ (G : Context) (env : FlatEnv) (v : FlatValue) (E : Env_of q hi m G env) (eF : F B.chosen ≡ word v) (h : Fits N τ W.sizing (calls W) m (push F no_frames) B.from v) (simple : Simple W.sizing p q) (parts : List ℕ) (sub : (c : ℕ) → is_among parts c ≡ false → is_among (part_names p) c ≡ false) (unnamed : has (names_one parts) (W.sizing.size_at q) ≡ false) where
+    module _ (G : Context) (env : FlatEnv) (v : FlatValue) (E : Env_of q hi m G env) (eF : F B.chosen ≡ word v) (h : Fits N τ W.sizing W.is_there (calls W) m (push F no_frames) B.from v) (simple : Simple W.sizing p q) (parts : List ℕ) (sub : (c : ℕ) → is_among parts c ≡ false → is_among (part_names p) c ≡ false) (unnamed : has (names_one parts) (W.sizing.size_at q) ≡ false) where
       value_named : (b : ℕ) → value_name p ≡ Some b → B.inside B.chosen ≡ Name b
       value_named b e = named_is (value_name p) (B.inside B.chosen) b B.named e
 
@@ -394,7 +396,7 @@ module _ (N : Names) (types : Sub) (τ : Meant) (W : World) (S : Sound N types W
           ∙ outside_still d o
 
       fits_inside : Of (parts_by p v (placed_as B.position F m)) (s q) v
-      fits_inside = fits_same (λ d. names_one parts (At d) ≡ false) (placed_as B.position F m) (parts_by p v (placed_as B.position F m)) N τ W.sizing (calls W)
+      fits_inside = fits_same (λ d. names_one parts (At d) ≡ false) (placed_as B.position F m) (parts_by p v (placed_as B.position F m)) N τ W.sizing W.is_there (calls W)
           (λ d e. sym (parts_else p v (placed_as B.position F m) d (unnamed_as parts (part_names p) sub d e))) (s q) 0 no_frames no_frames unnamed_here (λ j i l. refl) v (taken v h)
         where
           both : (j : ℕ) (d : Dim) → Scoped (Beyond (q + pattern_numbers p) hi) j d × (names_one parts d ≡ false) → Scoped (λ d. names_one parts (At d) ≡ false) j d
@@ -405,16 +407,16 @@ module _ (N : Names) (types : Sub) (τ : Meant) (W : World) (S : Sound N types W
           unnamed_here = each_as (λ j d. Scoped (Beyond (q + pattern_numbers p) hi) j d × (names_one parts d ≡ false)) (Scoped (λ d. names_one parts (At d) ≡ false)) both (s q) 0
               (each_and (Scoped (Beyond (q + pattern_numbers p) hi)) (λ j d. names_one parts d ≡ false) (s q) 0 B.away (unnamed_each parts (s q) 0 unnamed))
 
-      entered_here : Out_fits (λ x. Env_of (q + pattern_numbers p) hi (parts_by p v (placed_as B.position F m)) (with_pattern W.sizing.size_at p q (with_positions B.position G)) x) (bound q p v env)
+      entered_here : Out_fits (There W.is_there) (λ x. Env_of (q + pattern_numbers p) hi (parts_by p v (placed_as B.position F m)) (with_pattern W.sizing.size_at p q (with_positions B.position G)) x) (bound q p v env)
       entered_here =
-          enters N types τ W S one (q + pattern_numbers p) hi (parts_by p v (placed_as B.position F m)) (λ d. d) (λ d. refl) p q (s q) v (with_positions B.position G) (with_entered (s q) (with_positions B.position G)) env (λ e x. x) at_home simple (omega arith)
+          enters N types τ W S one (q + pattern_numbers p) hi (parts_by p v (placed_as B.position F m)) (λ d. d) (λ d. refl) p q (s q) v (with_positions B.position G) env at_home simple (omega arith)
           (nodes_away N types τ W (q + pattern_numbers p) hi (λ d. d) (λ d. refl) p q (s q) B.parts B.away) B.parts fits_inside (parts_worth p q v (placed_as B.position F m) at_home simple value_worth)
           (env_positions N types τ W q (q + pattern_numbers p) hi m G env B.position (omega (arith, le, le')) B.own E (i64_away (q + pattern_numbers p) hi) (parts_by p v (placed_as B.position F m)) inner_beyond (omega arith))
 
-  entered_fits : (lo at hi : ℕ) (p : FlatPattern) (q : ℕ) (u : Size) (B : Binder N types W.sizing.size_at W.sizing.home lo at hi p q u) (le : q + pattern_numbers p ≤ at) (le' : at ≤ hi) (m : Worth) (F : ℕ → ℕ) (G : Context) (env : FlatEnv) (v : FlatValue) → Simple W.sizing p q → Env_of q hi m G env → F B.chosen ≡ word v → Fits N τ W.sizing (calls W) m (push F no_frames) B.from v → (q' : ℕ) → q' ≡ q
+  entered_fits : (lo at hi : ℕ) (p : FlatPattern) (q : ℕ) (u : Size) (B : Binder N types W.sizing.size_at W.sizing.home lo at hi p q u) (le : q + pattern_numbers p ≤ at) (le' : at ≤ hi) (m : Worth) (F : ℕ → ℕ) (G : Context) (env : FlatEnv) (v : FlatValue) → Simple W.sizing p q → Env_of q hi m G env → F B.chosen ≡ word v → Fits N τ W.sizing W.is_there (calls W) m (push F no_frames) B.from v → (q' : ℕ) → q' ≡ q
       → (parts : List ℕ) → ((c : ℕ) → is_among parts c ≡ false → is_among (part_names p) c ≡ false) → has (names_one parts) (W.sizing.size_at q) ≡ false
-      → Out_fits (λ x. Env_of (q + pattern_numbers p) hi (parts_by p v (placed_as B.position F m)) (with_pattern W.sizing.size_at p q (with_positions B.position G)) x) (bound q' p v env)
-  entered_fits lo at hi p q u B le le' m F G env v simple E eF h q' e parts sub unnamed = subst (λ z. Out_fits (λ x. Env_of (q + pattern_numbers p) hi (parts_by p v (placed_as B.position F m)) (with_pattern W.sizing.size_at p q (with_positions B.position G)) x) (bound z p v env)) (sym e)
+      → Out_fits (There W.is_there) (λ x. Env_of (q + pattern_numbers p) hi (parts_by p v (placed_as B.position F m)) (with_pattern W.sizing.size_at p q (with_positions B.position G)) x) (bound q' p v env)
+  entered_fits lo at hi p q u B le le' m F G env v simple E eF h q' e parts sub unnamed = subst (λ z. Out_fits (There W.is_there) (λ x. Env_of (q + pattern_numbers p) hi (parts_by p v (placed_as B.position F m)) (with_pattern W.sizing.size_at p q (with_positions B.position G)) x) (bound z p v env)) (sym e)
       (entered_here lo at hi p q u B le le' m F G env v E eF h simple parts sub unnamed)
 
   nothing_renamed : (lo : ℕ) (m : Worth) (d : Free) → free m (leave lo [] d) ≡ free m d
@@ -427,7 +429,7 @@ module _ (N : Names) (types : Sub) (τ : Meant) (W : World) (S : Sound N types W
   -- a value of the body's type, where names that are parts have left
   parts_leave : (lo at hi : ℕ) (parts : List ℕ) (m : Worth) (v : FlatValue) → lo < at → at ≤ hi → Leaves N types W parts lo at → R_of at hi m (s at) v
       → (now : Worth) × ((d : Free) → Beyond at hi d → Beyond lo (1 + lo) d → now d ≡ m d) × Of now (renamed (leave lo parts) (s at)) v
-  parts_leave lo at hi [] m v l l' away r = (r.now, (λ d o o'. r.old d o), (fits_renamed N τ W.sizing (calls W) r.now r.now (leave lo []) (nothing_renamed lo r.now) (s at) no_frames v).1 r.fits)
+  parts_leave lo at hi [] m v l l' away r = (r.now, (λ d o o'. r.old d o), (fits_renamed N τ W.sizing W.is_there (calls W) r.now r.now (leave lo []) (nothing_renamed lo r.now) (s at) no_frames v).1 r.fits)
   parts_leave lo at hi (x ∷ xs) m v l l' away r = let y = names_leave N types τ W S one lo at hi (x ∷ xs) m v l l' away r in (y.0, (λ d o o'. y.1 d o' o), y.2)
 
   -- a size that is not unknown after it left has not left
@@ -461,25 +463,25 @@ module _ (N : Names) (types : Sub) (τ : Meant) (W : World) (S : Sound N types W
       → ((F : ℕ → ℕ) (v : FlatValue) (x : FlatEnv) → Env_of (q + pattern_numbers p) hi (parts_by p v (placed_as B.position F m)) (with_pattern W.sizing.size_at p q (with_positions B.position G)) x → Of (parts_by p v (placed_as B.position F m)) (opened B.inside B.to) (Closure (pattern_and p2 ps) e at x))
       → Of m u (Closure (pattern_and p (pattern_and p2 ps)) e at env)
   waits_fits ps p p2 e parts lo q at hi u G env m z le before B tells_all simple E node sub unnamed apart_to inner = subst (λ x. Of m x (Closure (pattern_and p (pattern_and p2 ps)) e at env)) (sym B.function)
-      (a_function N τ W.sizing (calls W) m B.chosen B.from B.to (Closure (pattern_and p (pattern_and p2 ps)) e at env) tells_all (λ F v eF h. evaluates N types τ W S one (Given_back lo at hi p q u B z le m F) (Call (Closure (pattern_and p (pattern_and p2 ps)) e at env) v)
+      (a_function N τ W.sizing W.is_there (calls W) m B.chosen B.from B.to (Closure (pattern_and p (pattern_and p2 ps)) e at env) tells_all (λ F v eF h. evaluates N types τ W S one (Given_back lo at hi p q u B z le m F) (Call (Closure (pattern_and p (pattern_and p2 ps)) e at env) v)
       (gives_then (λ x. Env_of (q + pattern_numbers p) hi (parts_by p v (placed_as B.position F m)) (with_pattern W.sizing.size_at p q (with_positions B.position G)) x) (Given_back lo at hi p q u B z le m F) _ _
-      (gives_exact _ 0 _ (entered_fits lo at hi p q u B z le m F G env v simple E eF h (at - all_pattern_numbers (pattern_and p (pattern_and p2 ps))) node parts sub unnamed))
-      (λ x E'. gives_exact (Given_back lo at hi p q u B z le m F) 0 (Val (Closure (pattern_and p2 ps) e at x)) (back lo at hi p q u B z le m F before parts sub v (parts_by p v (placed_as B.position F m)) (λ d o o'. refl) (Closure (pattern_and p2 ps) e at x) apart_to (inner F v x E'))))))
+      (gives_exact _ _ 0 _ (entered_fits lo at hi p q u B z le m F G env v simple E eF h (at - all_pattern_numbers (pattern_and p (pattern_and p2 ps))) node parts sub unnamed))
+      (λ x E'. gives_exact _ (Given_back lo at hi p q u B z le m F) 0 (Val (Closure (pattern_and p2 ps) e at x)) (back lo at hi p q u B z le m F before parts sub v (parts_by p v (placed_as B.position F m)) (λ d o o'. refl) (Closure (pattern_and p2 ps) e at x) apart_to (inner F v x E'))))))
 
   -- what one tells that wants one argument more
-  last_tells : (p : FlatPattern) (e : FlatTerm) (parts : List ℕ) (lo q at hi : ℕ) (u : Size) (G : Context) (env : FlatEnv) (m : Worth) (z : q + pattern_numbers p ≤ at) (le : at ≤ hi) (before : 1 + lo ≤ q) (B : Binder N types W.sizing.size_at W.sizing.home lo at hi p q u)
+  last_tells : (p : FlatPattern) (e : FlatTerm) (parts : List ℕ) (lo q at hi : ℕ) (u : Size) (G : Context) (env : FlatEnv) (m : Worth) (z : q + pattern_numbers p ≤ at) (lt : at < hi) (before : 1 + lo ≤ q) (B : Binder N types W.sizing.size_at W.sizing.home lo at hi p q u)
       → Telling N types W.sizing.size_at W.sizing.home no_pattern q at B.chosen B.from B.to G → opened B.inside B.to ≡ renamed (leave lo parts) (s at) → Env_of q hi m G env → at - all_pattern_numbers (pattern_and p no_pattern) ≡ q
       → Data B.to → Each (Of_positions (λ i. i < B.chosen)) 1 B.to → (F : ℕ → ℕ) (h : Shape) → Has_shape N τ m (push F no_frames) B.from h → Has_shape N τ m (push F no_frames) B.to (tells W.sizing (Closure (pattern_and p no_pattern) e at env) (h ∷ []))
   unfolding tells closure_tells result_shape
-  last_tells p e parts lo q at hi u G env m z le before B telling same E node dr names_low F h hx =
-      let T = telling (data_from lo at hi p q u B z le m F G env E h hx) dr names_low in
+  last_tells p e parts lo q at hi u G env m z lt before B telling same E node dr names_low F h hx =
+      let T = telling (data_from lo at hi p q u B z (omega (arith, lt)) m F G env E h hx) dr names_low in
       let d2 : Data (renamed (leave lo parts) (s at)) = subst Data same ((data_replaced (given B.inside) B.to 1).0 dr) in
       let d3 : Data (s at) = (data_replaced (renaming (leave lo parts)) (s at) 0).1 d2 in
-      shape_back lo at hi p q u B z le m F names_low _
+      shape_back lo at hi p q u B z (omega (arith, lt)) m F names_low _
       (subst (λ t. Has_shape N τ (placed_as B.position F m) no_frames t (tells W.sizing (Closure (pattern_and p no_pattern) e at env) (h ∷ []))) (sym same)
-      (shape_renamed_in N τ W.sizing (calls W) (placed_as B.position F m) (placed_as B.position F m) (leave lo parts) (λ d. free (placed_as B.position F m) (leave lo parts d) ≡ free (placed_as B.position F m) d) (λ d k. k) (s at) no_frames _ stays
+      (shape_renamed_in N τ W.sizing W.is_there (calls W) (placed_as B.position F m) (placed_as B.position F m) (leave lo parts) (λ d. free (placed_as B.position F m) (leave lo parts d) ≡ free (placed_as B.position F m) d) (λ d k. k) (s at) no_frames _ stays
       (subst (λ y. Has_shape N τ (placed_as B.position F m) no_frames (s at) (closure_tells W.sizing (y ∷ []) at (h ∷ []) (found W.sizing env))) (sym node)
-      (told_body lo at hi p q u B z le m F G env E h hx (s at) d3 (S.formed at) T.0 T.1))))
+      (told_body lo at hi p q u B z (omega (arith, lt)) m F G env E h hx (s at) d3 (S.formed at) T.0 (each_named (Named_at N types τ W q hi) (s at) 0 (λ d e. (at, omega (arith, z), lt, e))) T.1))))
     where
       known : (j : ℕ) (d : Dim) → Scoped (λ d. (B.position d ≡ None) × Beyond at hi d × Beyond lo (1 + lo) d) (suc j) d × Of_positions (λ i. i < B.chosen) (suc j) d → Scoped (Beyond lo (1 + lo)) j (given B.inside (suc j) d)
       known j (At d) k = k.0.2
@@ -498,7 +500,7 @@ module _ (N : Names) (types : Sub) (τ : Meant) (W : World) (S : Sound N types W
       stays = each_from (Scoped (λ d. free (placed_as B.position F m) (leave lo parts d) ≡ free (placed_as B.position F m) d)) (Scoped (Beyond lo (1 + lo))) (renaming (leave lo parts)) turned (s at) 0
           (subst (Each (Scoped (Beyond lo (1 + lo))) 0) same
           (each_replaced (λ j d. Scoped (λ d. (B.position d ≡ None) × Beyond at hi d × Beyond lo (1 + lo) d) j d × Of_positions (λ i. i < B.chosen) j d) (Scoped (Beyond lo (1 + lo))) (given B.inside) known B.to 0
-          (each_and (Scoped (λ d. (B.position d ≡ None) × Beyond at hi d × Beyond lo (1 + lo) d)) (Of_positions (λ i. i < B.chosen)) B.to 1 (kept lo at hi p q u B z le m F).1 names_low)))
+          (each_and (Scoped (λ d. (B.position d ≡ None) × Beyond at hi d × Beyond lo (1 + lo) d)) (Of_positions (λ i. i < B.chosen)) B.to 1 (kept lo at hi p q u B z (omega (arith, lt)) m F).1 names_low)))
 
   no_function_data : (k : ℕ) (p r : Size) → Data (Fun k p r) → ⊥
   unfolding Data
@@ -516,35 +518,35 @@ module _ (N : Names) (types : Sub) (τ : Meant) (W : World) (S : Sound N types W
       (closure_always N types τ W S (Sized N types W.sizing.size_at W.sizing.home e at) parts ps lo (q + pattern_numbers p) at hi (opened B.inside B.to) (with_pattern W.sizing.size_at p q (with_positions B.position G)) (with_data W.sizing.fields (W.sizing.size_at q) h (found W.sizing env)) m no_frames taken.2
       ((flat_result_replaced (given B.inside) B.to 1).0 flat))))
 
-  pub closure_fits : (ps : Patterns Ref BindId) (p : FlatPattern) (e : FlatTerm) (parts : List ℕ) (lo q at hi : ℕ) (u : Size) (G : Context) (env : FlatEnv) (m : Worth) → All_simple W.sizing (pattern_and p ps) q → ((c : ℕ) → is_among parts c ≡ false → is_among (all_part_names (pattern_and p ps)) c ≡ false) → Leaves N types W parts lo at → 1 + lo ≤ q → q + (pattern_numbers p + all_pattern_numbers ps) ≡ at → at ≤ hi → Body_law e at hi
+  pub closure_fits : (ps : Patterns Ref BindId) (p : FlatPattern) (e : FlatTerm) (parts : List ℕ) (lo q at hi : ℕ) (u : Size) (G : Context) (env : FlatEnv) (m : Worth) → All_simple W.sizing (pattern_and p ps) q → ((c : ℕ) → is_among parts c ≡ false → is_among (all_part_names (pattern_and p ps)) c ≡ false) → Leaves N types W parts lo at → 1 + lo ≤ q → q + (pattern_numbers p + all_pattern_numbers ps) ≡ at → at < hi → Body_law e at hi
       → Takes N types W.sizing.size_at W.sizing.home (Sized N types W.sizing.size_at W.sizing.home e at) parts (pattern_and p ps) lo q at hi u G → Env_of q hi m G env → Of m u (Closure (pattern_and p ps) e at env)
-  closure_fits no_pattern p e parts lo q at hi u G env m simple sub leaves before z le body (B, unnamed, telling, (inside_parameter, same, sized)) E =
+  closure_fits no_pattern p e parts lo q at hi u G env m simple sub leaves before z lt body (B, unnamed, telling, (inside_parameter, same, sized)) E =
       let node : at - (pattern_numbers p + 0) ≡ q = omega (arith, z) in
       let first : (c : ℕ) → is_among parts c ≡ false → is_among (part_names p) c ≡ false = λ c e. among_first (part_names p) [] c (sub c e) in
       let apart_to : Each (λ j d. names_one parts d ≡ false) 1 (opened B.inside B.to) = takes_unnamed (Sized N types W.sizing.size_at W.sizing.home e at) parts no_pattern lo (q + pattern_numbers p) at hi (opened B.inside B.to) (with_pattern W.sizing.size_at p q (with_positions B.position G)) (inside_parameter, same, sized) 1 in
       subst (λ x. Of m x (Closure (pattern_and p no_pattern) e at env)) (sym B.function)
-      (a_function N τ W.sizing (calls W) m B.chosen B.from B.to (Closure (pattern_and p no_pattern) e at env) (refl, λ known F h hx. by_result known F h hx (known_cases Any_free (B.chosen ∷ []) B.to known))
-      (λ F v eF h. evaluates N types τ W S one (Given_back lo at hi p q u B (omega (arith, z)) le m F) (Call (Closure (pattern_and p no_pattern) e at env) v)
-      (gives_then (λ x. Env_of (q + pattern_numbers p) hi (parts_by p v (placed_as B.position F m)) (with_pattern W.sizing.size_at p q (with_positions B.position G)) x) (Given_back lo at hi p q u B (omega (arith, z)) le m F) _ _
-      (gives_exact _ 0 _ (entered_fits lo at hi p q u B (omega (arith, z)) le m F G env v simple.0 E eF h (at - all_pattern_numbers (pattern_and p no_pattern)) node parts first unnamed))
-      (λ x E'. gives_as (R_of at hi (parts_by p v (placed_as B.position F m)) (s at)) (Given_back lo at hi p q u B (omega (arith, z)) le m F) (means W (Evaluate x at e))
+      (a_function N τ W.sizing W.is_there (calls W) m B.chosen B.from B.to (Closure (pattern_and p no_pattern) e at env) (refl, λ known F h hx. by_result known F h hx (known_cases Any_free (B.chosen ∷ []) B.to known))
+      (λ F v eF h. evaluates N types τ W S one (Given_back lo at hi p q u B (omega (arith, z)) (omega (arith, lt)) m F) (Call (Closure (pattern_and p no_pattern) e at env) v)
+      (gives_then (λ x. Env_of (q + pattern_numbers p) hi (parts_by p v (placed_as B.position F m)) (with_pattern W.sizing.size_at p q (with_positions B.position G)) x) (Given_back lo at hi p q u B (omega (arith, z)) (omega (arith, lt)) m F) _ _
+      (gives_exact _ _ 0 _ (entered_fits lo at hi p q u B (omega (arith, z)) (omega (arith, lt)) m F G env v simple.0 E eF h (at - all_pattern_numbers (pattern_and p no_pattern)) node parts first unnamed))
+      (λ x E'. gives_as (R_of at hi (parts_by p v (placed_as B.position F m)) (s at)) (Given_back lo at hi p q u B (omega (arith, z)) (omega (arith, lt)) m F) (means W (Evaluate x at e))
       (body (with_pattern W.sizing.size_at p q (with_positions B.position G)) x (parts_by p v (placed_as B.position F m)) sized (env_moves N types τ W (q + pattern_numbers p) hi at hi (parts_by p v (placed_as B.position F m)) (parts_by p v (placed_as B.position F m)) (with_pattern W.sizing.size_at p q (with_positions B.position G)) x (omega (arith, z)) (omega arith) (λ d o. refl) E'))
-      (λ w r. let y = parts_leave lo at hi parts (parts_by p v (placed_as B.position F m)) w (omega (arith, before, z)) le leaves r in
-      back lo at hi p q u B (omega (arith, z)) le m F before parts first v y.0 y.1 w apart_to (subst (λ x. Of y.0 x w) (sym same) y.2))))))
+      (λ w r. let y = parts_leave lo at hi parts (parts_by p v (placed_as B.position F m)) w (omega (arith, before, z)) (omega (arith, lt)) leaves r in
+      back lo at hi p q u B (omega (arith, z)) (omega (arith, lt)) m F before parts first v y.0 y.1 w apart_to (subst (λ x. Of y.0 x w) (sym same) y.2))))))
     where
       flat_tells : Flat_result B.to → (F : ℕ → ℕ) (h : Shape) → Told_right N τ m (push F no_frames) B.to (λ hs. tells W.sizing (Closure (pattern_and p no_pattern) e at env) (h ∷ hs))
       flat_tells fl F h = closure_tells_flat no_pattern p e parts lo q at hi u G env m (omega (arith, z)) B (unnamed, telling, (inside_parameter, same, sized)) fl F h
 
       by_result : Known_result Any_free (B.chosen ∷ []) B.to → (F : ℕ → ℕ) (h : Shape) → Has_shape N τ m (push F no_frames) B.from h → Data B.to ⊎ Flat_result B.to → Told_right N τ m (push F no_frames) B.to (λ hs. tells W.sizing (Closure (pattern_and p no_pattern) e at env) (h ∷ hs))
       by_result known F h hx (inl d) = told_here N τ m (push F no_frames) B.to d (λ hs. tells W.sizing (Closure (pattern_and p no_pattern) e at env) (h ∷ hs))
-          (last_tells p e parts lo q at hi u G env m (omega (arith, z)) le before B telling same E (let y : at - (pattern_numbers p + 0) ≡ q = omega (arith, z) in y) d (known_low Any_free B.chosen B.to known) F h hx)
+          (last_tells p e parts lo q at hi u G env m (omega (arith, z)) lt before B telling same E (let y : at - (pattern_numbers p + 0) ≡ q = omega (arith, z) in y) d (known_low Any_free B.chosen B.to known) F h hx)
       by_result known F h hx (inr fl) = flat_tells fl F h
-  closure_fits (pattern_and p2 ps) p e parts lo q at hi u G env m simple sub leaves before z le body (B, unnamed, told, more) E =
+  closure_fits (pattern_and p2 ps) p e parts lo q at hi u G env m simple sub leaves before z lt body (B, unnamed, told, more) E =
       let node : at - (pattern_numbers p + (pattern_numbers p2 + all_pattern_numbers ps)) ≡ q = omega (arith, z) in
       let first : (c : ℕ) → is_among parts c ≡ false → is_among (part_names p) c ≡ false = λ c e. among_first (part_names p) (all_part_names (pattern_and p2 ps)) c (sub c e) in
-      waits_fits ps p p2 e parts lo q at hi u G env m (omega (arith, z)) le before B (refl, λ known F h hx. by_result F h (known_cases Any_free (B.chosen ∷ []) B.to known)) simple.0 E node first unnamed
+      waits_fits ps p p2 e parts lo q at hi u G env m (omega (arith, z)) (omega (arith, lt)) before B (refl, λ known F h hx. by_result F h (known_cases Any_free (B.chosen ∷ []) B.to known)) simple.0 E node first unnamed
       (takes_unnamed (Sized N types W.sizing.size_at W.sizing.home e at) parts (pattern_and p2 ps) lo (q + pattern_numbers p) at hi (opened B.inside B.to) (with_pattern W.sizing.size_at p q (with_positions B.position G)) more 1)
-      (λ F v x E'. closure_fits ps p2 e parts lo (q + pattern_numbers p) at hi (opened B.inside B.to) (with_pattern W.sizing.size_at p q (with_positions B.position G)) x (parts_by p v (placed_as B.position F m)) simple.1 (λ c e. among_later (part_names p) (all_part_names (pattern_and p2 ps)) c (sub c e)) leaves (omega (arith, before)) (omega (arith, z)) le body more E')
+      (λ F v x E'. closure_fits ps p2 e parts lo (q + pattern_numbers p) at hi (opened B.inside B.to) (with_pattern W.sizing.size_at p q (with_positions B.position G)) x (parts_by p v (placed_as B.position F m)) simple.1 (λ c e. among_later (part_names p) (all_part_names (pattern_and p2 ps)) c (sub c e)) leaves (omega (arith, before)) (omega (arith, z)) lt body more E')
     where
       by_result : (F : ℕ → ℕ) (h : Shape) → Data B.to ⊎ Flat_result B.to → Told_right N τ m (push F no_frames) B.to (λ hs. tells W.sizing (Closure (pattern_and p (pattern_and p2 ps)) e at env) (h ∷ hs))
       by_result F h (inl d) = absurd (no_function_data _ _ _ (subst Data more.0.function ((data_replaced (given B.inside) B.to 1).0 d)))

@@ -1,4 +1,5 @@
 -- Lets: the names of a pattern are worth what its parts are, and sizes that it names what they take.
+use Rattle.sized_meaning.specs.There.{There}
 use Rattle.fut_meaning.specs.Found.{is_number as is_whole}
 use Rattle.fut_meaning.specs.Telling.{found}
 use Rattle.fut_meaning.specs.Values.{bind, entered}
@@ -25,7 +26,7 @@ use Rattle.sized_meaning.specs.Worth.{Worth, free, no_frames}
 use Rattle.sized_meaning.specs.Shapes.{Meant}
 use Rattle.sized_meaning.specs.Finding.{One_kind_each}
 use Rattle.sized_meaning.specs.Fits.{Out_fits, word, Fits}
-use Rattle.sized_meaning.specs.Law.{Sound, One_type, Name_home, Simple, Nodes_away, World, calls, Beyond as Out_beyond, Env_fits, Result as Res}
+use Rattle.sized_meaning.specs.Law.{Sound, One_type, Name_home, Simple, Nodes_away, World, calls, Beyond as Out_beyond, Named_at, Env_fits, Result as Res}
 use Rattle.sized_meaning.proofs.Finding.{dim_same, none_no}
 use Rattle.sized_meaning.proofs.Reading.{fits_renamed_in}
 use Rattle.sized_meaning.proofs.Suiting.{at_node, free_is}
@@ -98,7 +99,7 @@ module _ (N : Names) (types : Sub) (τ : Meant) (W : World) (S : Sound N types W
   In_nodes lo hi d = Inside N types W.sizing.size_at W.sizing.home lo hi d
 
   abbrev Of : Worth → Size → FlatValue → Type 0
-  Of m t v = Fits N τ W.sizing (calls W) m no_frames t v
+  Of m t v = Fits N τ W.sizing W.is_there (calls W) m no_frames t v
 
   -- ---- names of sizes have no values
 
@@ -190,7 +191,7 @@ module _ (N : Names) (types : Sub) (τ : Meant) (W : World) (S : Sound N types W
 
     -- the environment inside, where the value fits at a worth that differs from that of the one around at these nodes alone
     pub taken_env : (m now : Worth) (G : Context) (env : FlatEnv) → Env_of lo hi m G env → ((d : Free) → Beyond lo hi d → now d ≡ m d) → Of now t w
-        → Out_fits (λ x. Env_of at hi (named_by p w (taking T.what (bind_ids sizes) now)) (with_pattern W.sizing.size_at p (1 + lo) (with_size_names (bind_ids sizes) G)) x) (bound (1 + lo) p w env)
+        → Out_fits (There W.is_there) (λ x. Env_of at hi (named_by p w (taking T.what (bind_ids sizes) now)) (with_pattern W.sizing.size_at p (1 + lo) (with_size_names (bind_ids sizes) G)) x) (bound (1 + lo) p w env)
     taken_env m now G env E old h =
         let m' : Worth = named_by p w (taking T.what (bind_ids sizes) now) in
         let moved : (d : Free) → Beyond lo hi d → m' d ≡ m d = λ d o. inside_beyond now d (outside_narrower N types τ W lo hi (1 + lo) mid (omega arith) (omega (arith, l1, l2)) d o) ∙ old d o in
@@ -201,7 +202,7 @@ module _ (N : Names) (types : Sub) (τ : Meant) (W : World) (S : Sound N types W
           λ v l. E.fresh b v (inside_wider N types τ W lo hi (1 + lo) mid (omega arith) (omega (arith, l1, l2)) (Name b) i) l,
         )) in
         let at_home : Name_home W.sizing p (1 + lo) = home_here p lo mid l0 (λ c e. T.bound_here c (among_front (names p) (bind_ids sizes) c e)) in
-        enters N types τ W S one at hi m' (taken_by T.what (bind_ids sizes)) (λ d. taken_stays now d) p (1 + lo) t w G' (with_entered (W.sizing.size_at (1 + lo)) G') env (λ e x. x) at_home T.simple (omega (arith, l0, l1)) T.nodes T.taken (inside_fits now h)
+        enters N types τ W S one at hi m' (taken_by T.what (bind_ids sizes)) (λ d. taken_stays now d) p (1 + lo) t w G' env at_home T.simple (omega (arith, l0, l1)) T.nodes T.taken (inside_fits now h)
         (names_worth N types τ W p (1 + lo) w (taking T.what (bind_ids sizes) now) at_home T.simple) E'
 
   -- ---- names leave
@@ -220,7 +221,7 @@ module _ (N : Names) (types : Sub) (τ : Meant) (W : World) (S : Sound N types W
   names_leave lo at hi xs m v l l' away r = (
     at_node lo (λ i. r.now (Name (name_at xs i))) r.now,
     λ d o o'. beyond_node N types τ W lo (λ i. r.now (Name (name_at xs i))) r.now d o ∙ r.old d o',
-    fits_renamed_in N τ W.sizing (calls W) (at_node lo (λ i. r.now (Name (name_at xs i))) r.now) r.now (leave lo xs) (Beyond lo (1 + lo)) (left_worth lo xs r.now) (s at) no_frames v away r.fits,
+    fits_renamed_in N τ W.sizing W.is_there (calls W) (at_node lo (λ i. r.now (Name (name_at xs i))) r.now) r.now (leave lo xs) (Beyond lo (1 + lo)) (left_worth lo xs r.now) (s at) no_frames v away r.fits,
   )
 
   pub let_result : (p : FlatPattern) (sizes : List BindId) (lo mid at hi : ℕ) (t : Size) (T : Taken_value p sizes lo mid at hi t) (l0 : mid ≡ 1 + lo + pattern_numbers p) (l1 : mid ≤ at) (l2 : at ≤ hi) (w : FlatValue) (m now : Worth) → lo < hi → ((d : Free) → Beyond lo hi d → now d ≡ m d)
@@ -248,7 +249,7 @@ module _ (N : Names) (types : Sub) (τ : Meant) (W : World) (S : Sound N types W
         fresh = λ k x i l. fresh E1 k x (nat_eq b.0 k) refl i l;
         sizes_right = E1.sizes_right;
         types_right = E1.types_right;
-        finds = λ d e. finds E1 d (is_name b.0 d) e;
+        finds = λ d k e. finds E1 d k (is_name b.0 d) e;
         finds_types = E1.finds_types;
       }
     where
@@ -272,6 +273,6 @@ module _ (N : Names) (types : Sub) (τ : Meant) (W : World) (S : Sound N types W
       fresh E1 k x true q i l = o (subst (λ n. In_nodes at hi (Name n)) (sym (eqb-true b.0 k q)) i)
       fresh E1 k x false q i l = E1.fresh k x i l
 
-      finds : Env_of at hi m (with_entered (s (1 + lo)) G) (entered (1 + lo) w env) → (d : Free) (c : Bool) → cond c false ((with_entered (s (1 + lo)) G).finds d) ≡ true → (n : ℤ) × ((found W.sizing (entered (1 + lo) w env)).size d ≡ Some n)
-      finds E1 d true e = absurd (let y : false ≡ true = e in cc)
-      finds E1 d false e = E1.finds d e
+      finds : Env_of at hi m (with_entered (s (1 + lo)) G) (entered (1 + lo) w env) → (d : Free) → Named_at N types τ W at hi d → (c : Bool) → cond c (is_whole (s (1 + lo))) ((with_entered (s (1 + lo)) G).finds d) ≡ true → (n : ℤ) × ((found W.sizing (entered (1 + lo) w env)).size d ≡ Some n)
+      finds E1 d k true e = absurd (let y : false ≡ true = sym no_number ∙ e in cc)
+      finds E1 d k false e = E1.finds d k e

@@ -1,3 +1,6 @@
+pub mod Named
+pub mod Quiet
+pub mod Fields
 pub mod Ways
 pub mod Outcomes
 pub mod Reading
@@ -9,6 +12,7 @@ pub mod Finding
 pub mod Flats
 pub mod Datas
 pub mod Entered
+pub mod Alone
 pub mod Alike
 pub mod Branches
 pub mod Applications

@@ -1,4 +1,9 @@
 -- Loops: each turn gives a value of the sized type of the loop. Levels that it doesn't keep are met anew in each turn.
+use Rattle.fut_meaning.specs.Accessors.{truth_of}
+use Rattle.sized_meaning.proofs.Environments.{Quiet}
+use Rattle.sized_meaning.proofs.Outcomes.{gives_quiet}
+use Rattle.sized_meaning.proofs.Size_reports.{truth_of_fine}
+use Rattle.sized_meaning.specs.There.{There}
 use Rattle.std.proofs.Common.{◌≡◌, ℕ, zero, suc, ◌+◌, ◌<◌, ◌≤◌, List, [], ◌∷◌, ◌++◌, Bool, true, false, ◌||◌, cond, nat_eq, refl, sym, ap, ◌∙◌, subst, arith, eqb-true}
 use Rattle.fut_scalar.specs.declared.place.BindId.{BindId}
 use Rattle.fut_scalar.specs.declared.report.Report.{Report}
@@ -27,7 +32,7 @@ use Rattle.fut_flat.specs.declared.prim.Ref.{Ref}
 use Rattle.sized_types.specs.Sizes.{Free, Const, Name, Own, Unknown, Slot, Dim, At, Bound, Inferred, Written, Size, Hole, Open, Level, Built, Fun, Sizes, no_size, size_and, is_dim, levels, all_levels, replaced, all_replaced, renaming, renamed, erased, all_erased}
 use Rattle.fut_sizes.specs.Agreeing.{is_among}
 use Rattle.fut_sizes.specs.Scopes.{names}
-use Rattle.fut_sizes.specs.Scoping.{Context, with_name, with_entered, with_pattern, with_size_names}
+use Rattle.fut_sizes.specs.Scoping.{Context, with_name, with_pattern, with_size_names}
 use Rattle.fut_sizes.specs.Sizing.{bind_ids, lacking, all_lacking, lacking_dim, differing, all_differing}
 use Rattle.fut_sizes.specs.Suiting.{Each, Each_all, Scoped, Data, All_data}
 use Rattle.fut_sizes.specs.Rules.{taken_by, Away, Pattern_takes}
@@ -36,9 +41,7 @@ use Rattle.sized_meaning.specs.Shapes.{Meant, Has_datum}
 use Rattle.sized_meaning.specs.Finding.{One_kind_each, Well_formed}
 use Rattle.sized_meaning.specs.Fits.{Out_fits, Gives, word, Fits}
 use Rattle.sized_meaning.specs.Law.{Sound, Name_home, Simple, World, means, calls, Beyond as Out_beyond, Env_fits, Result as Res}
-use Rattle.sized_meaning.proofs.Ways.{gives_as}
 use Rattle.sized_meaning.proofs.Outcomes.{gives_exact, gives_then}
-use Rattle.sized_meaning.proofs.Scalars.{out_any}
 use Rattle.sized_meaning.proofs.Reading.{each_and, each_as, fits_same, fits_renamed}
 use Rattle.sized_meaning.proofs.Suiting.{at_node, free_is}
 use Rattle.sized_meaning.proofs.Finding.{dim_same}
@@ -52,25 +55,22 @@ use Rattle.sized_meaning.proofs.Lets.{stands_in, taking, Taken_value, inside_bey
 
 -- ---- turns, and turns while a test holds
 
-pub gives_turns : {A B : Type 0} (P : B → Type 0) (Q : A → Type 0) (g : A → B → Rel B) → ((a : A) (b : B) → Q a → P b → Gives P (g a b)) → (xs : List A) (b : B) → Every Q xs → P b → Gives P (turns g xs b)
-gives_turns P Q g go [] b e h = gives_exact P 0 (Val b) h
+pub gives_turns : {quiet : Report → Type 0} {A B : Type 0} (P : B → Type 0) (Q : A → Type 0) (g : A → B → Rel B) → ((a : A) (b : B) → Q a → P b → Gives quiet P (g a b)) → (xs : List A) (b : B) → Every Q xs → P b → Gives quiet P (turns g xs b)
+gives_turns P Q g go [] b e h = gives_exact _ P 0 (Val b) h
 gives_turns P Q g go (x ∷ xs) b e h = gives_then P P (g x b) (turns g xs) (go x b e.0 h) (λ c k. gives_turns P Q g go xs c e.1 k)
 
-gives_any : {A : Type 0} (k : Rel A) → Gives (λ a. Unit {0}) k
-gives_any k o f x = out_any o
+module _ {quiet : Report → Type 0} {B : Type 0} (P : B → Type 0) (r : Report) (told : quiet r) (test : B → Rel Bool) (body : B → Rel B) (ask : (b : B) → P b → Gives quiet (λ t. Unit {0}) (test b)) (go : (b : B) → P b → Gives quiet P (body b)) where
+  last : (b : B) → P b → (holds : Bool) → Gives quiet P (choose holds (the (Fail r)) (gives 0 b))
+  last b h true = gives_exact _ P 0 (Fail r) told
+  last b h false = gives_exact _ P 0 (Val b) h
 
-module _ {B : Type 0} (P : B → Type 0) (r : Report) (test : B → Rel Bool) (body : B → Rel B) (go : (b : B) → P b → Gives P (body b)) where
-  last : (b : B) → P b → (holds : Bool) → Gives P (choose holds (the (Fail r)) (gives 0 b))
-  last b h true = gives_exact P 0 (Fail r) tt
-  last b h false = gives_exact P 0 (Val b) h
-
-  more : (b : B) → P b → (k : B → Rel B) → ((c : B) → P c → Gives P (k c)) → (holds : Bool) → Gives P (choose holds (Then (body b) k) (gives 0 b))
+  more : (b : B) → P b → (k : B → Rel B) → ((c : B) → P c → Gives quiet P (k c)) → (holds : Bool) → Gives quiet P (choose holds (Then (body b) k) (gives 0 b))
   more b h k rest true = gives_then P P (body b) k (go b h) rest
-  more b h k rest false = gives_exact P 0 (Val b) h
+  more b h k rest false = gives_exact _ P 0 (Val b) h
 
-  pub gives_while : (n : ℕ) (b : B) → P b → Gives P (while_turns n r test body b)
-  gives_while zero b h = gives_then (λ t. Unit {0}) P (test b) _ (gives_any (test b)) (λ t u. last b h t)
-  gives_while (suc n) b h = gives_then (λ t. Unit {0}) P (test b) _ (gives_any (test b)) (λ t u. more b h (while_turns n r test body) (λ c k. gives_while n c k) t)
+  pub gives_while : (n : ℕ) (b : B) → P b → Gives quiet P (while_turns n r test body b)
+  gives_while zero b h = gives_then (λ t. Unit {0}) P (test b) _ (ask b h) (λ t u. last b h t)
+  gives_while (suc n) b h = gives_then (λ t. Unit {0}) P (test b) _ (ask b h) (λ t u. more b h (while_turns n r test body) (λ c k. gives_while n c k) t)
 
 pub any_counts : (n i : ℕ) → Every (λ j. Unit {0}) (counts n i)
 any_counts zero i = tt
@@ -193,7 +193,7 @@ module _ (N : Names) (types : Sub) (τ : Meant) (W : World) (S : Sound N types W
   Apart lo hi t = Away N types W.sizing.size_at W.sizing.home lo hi t
 
   abbrev Of : Worth → Size → FlatValue → Type 0
-  Of m t v = Fits N τ W.sizing (calls W) m no_frames t v
+  Of m t v = Fits N τ W.sizing W.is_there (calls W) m no_frames t v
 
   abbrev All_results : ℕ → ℕ → Context → FlatEnv → Size → FlatValue → Type 0
   All_results lo hi G env t v = (w : (m : Worth) × Env_of lo hi m G env) → R_of lo hi w.0 t v
@@ -216,18 +216,18 @@ module _ (N : Names) (types : Sub) (τ : Meant) (W : World) (S : Sound N types W
   scalar_is m (Built (head.Rigid n k) ts) c v f e h = absurd h
 
   -- the number of turns, and the numbers that count them
-  pub counted_type : (m : Worth) (t : IntType) (k : FlatValue) → Of m (Built (head.Scalar (sort.Int t)) no_size) k → Out_fits (λ (c : IntType × ℕ). c.0 ≡ t) (turns_of k)
+  pub counted_type : (m : Worth) (t : IntType) (k : FlatValue) → Of m (Built (head.Scalar (sort.Int t)) no_size) k → Out_fits (There W.is_there) (λ (c : IntType × ℕ). c.0 ≡ t) (turns_of k)
   unfolding Fits
   counted_type m t (Scalar_value (scalar.Int u n)) h = let z : sort.Int u ≡ sort.Int t = h in let y : u ≡ t = cc in y
   counted_type m t (Scalar_value (scalar.Bool b)) h = tt
   counted_type m t v h = absurd h
 
   -- the rows of an array
-  pub rows_out : (m : Worth) (d : Dim) (t : Size) (k : FlatValue) → Of m (Level d t) k → Well_formed W.sizing.fields t → Out_fits (λ r. Data t × Every (Has_datum N τ m no_frames t) r.1) (and_then (datum_of k) rows_of)
+  pub rows_out : (m : Worth) (d : Dim) (t : Size) (k : FlatValue) → Of m (Level d t) k → Well_formed W.sizing.fields t → Out_fits (There W.is_there) (λ r. Data t × Every (Has_datum N τ m no_frames t) r.1) (and_then (datum_of k) rows_of)
   unfolding Fits Has_datum
-  rows_out m d t k h f = subst (λ o. Out_fits (λ r. Data t × Every (Has_datum N τ m no_frames t) r.1) (and_then o rows_of)) (sym h.is_datum) (of_array h.datum h.fits)
+  rows_out m d t k h f = subst (λ o. Out_fits (There W.is_there) (λ r. Data t × Every (Has_datum N τ m no_frames t) r.1) (and_then o rows_of)) (sym h.is_datum) (of_array h.datum h.fits)
     where
-      of_array : (x : Datum) → Has_datum N τ m no_frames (Level d t) x → Out_fits (λ r. Data t × Every (Has_datum N τ m no_frames t) r.1) (rows_of x)
+      of_array : (x : Datum) → Has_datum N τ m no_frames (Level d t) x → Out_fits (There W.is_there) (λ r. Data t × Every (Has_datum N τ m no_frames t) r.1) (rows_of x)
       of_array (Array_datum row ds) h = (shaped_data N τ W.sizing.fields S.fields m no_frames t row f h.1, every_listed (Has_datum N τ m no_frames t) ds h.2)
       of_array x h = absurd h
 
@@ -276,7 +276,7 @@ module _ (N : Names) (types : Sub) (τ : Meant) (W : World) (S : Sound N types W
       now = at_node lo (all_of start (s mid)) start;
       kept_there = λ d o o'. beyond_own (all_of start (s mid)) start d (outside_narrower N types τ W lo te lo mid (omega arith) (omega (arith, l1, l2)) d o);
       fits = subst (λ t. Of (at_node lo (all_of start (s mid)) start) t w) (sym L.carried)
-          ((alike_fits N τ start (at_node lo (all_of start (s mid)) start) W.sizing (calls W)
+          ((alike_fits N τ start (at_node lo (all_of start (s mid)) start) W.sizing W.is_there (calls W)
           (first_lacking N types (Beyond lo mid) lo (all_of start (s mid)) start (λ d o. beyond_own (all_of start (s mid)) start d o) L.dropped 0 (s mid) L.no_function L.value_away (all_of_numbered start (s mid))) w).0 h);
     }
 
@@ -314,9 +314,9 @@ module _ (N : Names) (types : Sub) (τ : Meant) (W : World) (S : Sound N types W
             kept_there = λ d o o'. beyond_own F r.now d (outside_narrower N types τ W lo te lo mid (omega arith) (omega (arith, l1, l2)) d o) ∙ r.old d o' ∙ same d (outside_narrower N types τ W lo te ts te (omega (arith, l0, l1)) (omega arith) d o)
                 ∙ inside_beyond N types τ W S one p sizes lo mid ts hi (s lo) L.named l0 l1 (omega (arith, l2, l3, l4)) w x.now d (outside_narrower N types τ W lo te (1 + lo) mid (omega arith) (omega (arith, l1, l2)) d o) ∙ x.kept_there d o o';
             fits = subst (λ t. Of (at_node lo F r.now) t v) (sym L.carried)
-                ((alike_fits N τ r.now (at_node lo F r.now) W.sizing (calls W)
+                ((alike_fits N τ r.now (at_node lo F r.now) W.sizing W.is_there (calls W)
                 (turn_lacking N types (Beyond lo mid) lo F r.now (λ d o. beyond_own F r.now d o) L.dropped 0 (same_renamed ρ L.form 0) L.value_away (all_of_numbered r.now u) (subst (λ t. differing N types L.dropped 0 t u ≡ []) L.carried L.kept)) v).0
-                ((fits_renamed N τ W.sizing (calls W) r.now r.now ρ named_stays (s at) no_frames v).1 r.fits));
+                ((fits_renamed N τ W.sizing W.is_there (calls W) r.now r.now ρ named_stays (s at) no_frames v).1 r.fits));
           }
 
     pub ends : (m start : Worth) (v : FlatValue) → ((d : Free) → Beyond lo hi d → start d ≡ m d) → Turn_now start v → R_of lo hi m (s lo) v
@@ -330,17 +330,29 @@ module _ (N : Names) (types : Sub) (τ : Meant) (W : World) (S : Sound N types W
       from_start : (w : FlatValue) (x : Turn_now start w) (d : Free) → Beyond lo hi d → x.now d ≡ m d
       from_start w x d o = x.kept_there d (outside_narrower N types τ W lo hi lo te (omega arith) (omega (arith, l3, l4)) d o) (outside_narrower N types τ W lo hi at hi (omega (arith, l0, l1, l2, l3)) (omega arith) d o) ∙ old d o
 
-      bound_there : (w : FlatValue) (x : Turn_now start w) → Out_fits (λ e. Env_of ts hi (named_by p w (taking (L.named).what (bind_ids sizes) x.now)) (with_pattern W.sizing.size_at p (1 + lo) (with_size_names (bind_ids sizes) G)) e) (bound (1 + lo) p w env)
+      bound_there : (w : FlatValue) (x : Turn_now start w) → Out_fits (There W.is_there) (λ e. Env_of ts hi (named_by p w (taking (L.named).what (bind_ids sizes) x.now)) (with_pattern W.sizing.size_at p (1 + lo) (with_size_names (bind_ids sizes) G)) e) (bound (1 + lo) p w env)
       bound_there w x = taken_env N types τ W S one p sizes lo mid ts hi (s lo) L.named l0 l1 (omega (arith, l2, l3, l4)) w m x.now G env E (λ d o. from_start w x d o) x.fits
 
       -- where a condition is asked
-      pub while_turn : ((e : FlatEnv) → Gives (All_results at hi (with_pattern W.sizing.size_at p (1 + lo) (with_size_names (bind_ids sizes) G)) e (s at)) (means W (Evaluate e at body))) → (w : FlatValue) → Turn_now start w
-          → Gives (Turn_now start) (Then (the (bound (1 + lo) p w env)) (λ e. means W (Evaluate e at body)))
+      pub while_turn : ((e : FlatEnv) → Gives (Quiet N types τ W at hi (with_pattern W.sizing.size_at p (1 + lo) (with_size_names (bind_ids sizes) G)) e) (All_results at hi (with_pattern W.sizing.size_at p (1 + lo) (with_size_names (bind_ids sizes) G)) e (s at)) (means W (Evaluate e at body))) → (w : FlatValue) → Turn_now start w
+          → Gives (There W.is_there) (Turn_now start) (Then (the (bound (1 + lo) p w env)) (λ e. means W (Evaluate e at body)))
       while_turn law w x = gives_then (λ e. Env_of ts hi (named_by p w (taking (L.named).what (bind_ids sizes) x.now)) (with_pattern W.sizing.size_at p (1 + lo) (with_size_names (bind_ids sizes) G)) e) (Turn_now start) _ _
-          (gives_exact _ 0 (bound (1 + lo) p w env) (bound_there w x))
+          (gives_exact _ _ 0 (bound (1 + lo) p w env) (bound_there w x))
           (λ e E'. let m' : Worth = named_by p w (taking (L.named).what (bind_ids sizes) x.now) in
-          gives_as (All_results at hi (with_pattern W.sizing.size_at p (1 + lo) (with_size_names (bind_ids sizes) G)) e (s at)) (Turn_now start) (means W (Evaluate e at body)) (law e)
-          (λ v r. turned start w x m' (λ d o. refl) v (r (m', env_moves N types τ W ts hi at hi m' m' (with_pattern W.sizing.size_at p (1 + lo) (with_size_names (bind_ids sizes) G)) e (omega (arith, l2, l3)) (omega arith) (λ d o. refl) E'))))
+          let E2 = env_moves N types τ W ts hi at hi m' m' (with_pattern W.sizing.size_at p (1 + lo) (with_size_names (bind_ids sizes) G)) e (omega (arith, l2, l3)) (omega arith) (λ d o. refl) E' in
+          gives_quiet (All_results at hi (with_pattern W.sizing.size_at p (1 + lo) (with_size_names (bind_ids sizes) G)) e (s at)) (Turn_now start) (means W (Evaluate e at body)) (λ r q. q (m', E2)) (law e)
+          (λ v r. turned start w x m' (λ d o. refl) v (r (m', E2))))
+
+      -- the condition itself
+      pub while_asks : (c : FlatTerm) (end : ℕ) → end ≤ hi → ((e : FlatEnv) → Gives (Quiet N types τ W ts end (with_pattern W.sizing.size_at p (1 + lo) (with_size_names (bind_ids sizes) G)) e) (All_results ts end (with_pattern W.sizing.size_at p (1 + lo) (with_size_names (bind_ids sizes) G)) e (s ts)) (means W (Evaluate e ts c))) → (w : FlatValue) → Turn_now start w
+          → Gives (There W.is_there) (λ b. Unit {0}) (Then (Then (the (bound (1 + lo) p w env)) (λ e. means W (Evaluate e ts c))) (λ v. the (truth_of v)))
+      while_asks c end le law w x = gives_then (λ v. Unit {0}) (λ b. Unit {0}) _ _
+          (gives_then (λ e. Env_of ts hi (named_by p w (taking (L.named).what (bind_ids sizes) x.now)) (with_pattern W.sizing.size_at p (1 + lo) (with_size_names (bind_ids sizes) G)) e) (λ v. Unit {0}) _ _
+          (gives_exact _ _ 0 (bound (1 + lo) p w env) (bound_there w x))
+          (λ e E'. let m' : Worth = named_by p w (taking (L.named).what (bind_ids sizes) x.now) in
+          let E2 = env_moves N types τ W ts hi ts end m' m' (with_pattern W.sizing.size_at p (1 + lo) (with_size_names (bind_ids sizes) G)) e (omega arith) le (λ d o. refl) E' in
+          gives_quiet (All_results ts end (with_pattern W.sizing.size_at p (1 + lo) (with_size_names (bind_ids sizes) G)) e (s ts)) (λ v. Unit {0}) (means W (Evaluate e ts c)) (λ r q. q (m', E2)) (law e) (λ v r. tt)))
+          (λ v u. gives_exact _ _ 0 (truth_of v) (truth_of_fine W.is_there v))
 
       -- where turns are counted by a name
       module _ (i : BindId) (t : IntType) (counted : s ts ≡ Built (head.Scalar (sort.Int t)) no_size) (at_home : W.sizing.home i.0 ≡ ts) (l5 : ts < te) (simple : Simple W.sizing (Bound_pattern i) ts) where
@@ -365,15 +377,15 @@ module _ (N : Names) (types : Sub) (τ : Meant) (W : World) (S : Sound N types W
             named_inside c true z q = let k : W.sizing.home c ≡ ts = ap W.sizing.home (eqb-true c i.0 z) ∙ at_home in (omega (arith, k), omega (arith, k, l5))
             named_inside c false z q = absurd (let y : false ≡ true = q in cc)
 
-        pub counted_turn : ((e : FlatEnv) → Gives (All_results at hi (with_name i.0 (s ts) (with_pattern W.sizing.size_at p (1 + lo) (with_size_names (bind_ids sizes) G))) e (s at)) (means W (Evaluate e at body))) → (j : ℕ) (w : FlatValue) → Turn_now start w
-            → Gives (Turn_now start) (Then (the (bound (1 + lo) p w env)) (λ e. means W (Evaluate (bind i (Scalar_value (scalar.Int t j)) (entered ts (Scalar_value (scalar.Int t j)) e)) at body)))
+        pub counted_turn : ((e : FlatEnv) → Gives (Quiet N types τ W at hi (with_name i.0 (s ts) (with_pattern W.sizing.size_at p (1 + lo) (with_size_names (bind_ids sizes) G))) e) (All_results at hi (with_name i.0 (s ts) (with_pattern W.sizing.size_at p (1 + lo) (with_size_names (bind_ids sizes) G))) e (s at)) (means W (Evaluate e at body))) → (j : ℕ) (w : FlatValue) → Turn_now start w
+            → Gives (There W.is_there) (Turn_now start) (Then (the (bound (1 + lo) p w env)) (λ e. means W (Evaluate (bind i (Scalar_value (scalar.Int t j)) (entered ts (Scalar_value (scalar.Int t j)) e)) at body)))
         counted_turn law j w x = gives_then (λ e. Env_of ts hi (named_by p w (taking (L.named).what (bind_ids sizes) x.now)) inside e) (Turn_now start) _ _
-            (gives_exact _ 0 (bound (1 + lo) p w env) (bound_there w x))
+            (gives_exact _ _ 0 (bound (1 + lo) p w env) (bound_there w x))
             (λ e E'. let v : FlatValue = Scalar_value (scalar.Int t j) in
             let m' : Worth = named_by p w (taking (L.named).what (bind_ids sizes) x.now) in
             let m2 : Worth = named_as i.0 (word v) m' in
             let e2 : FlatEnv = bind i v (entered ts v e) in
-            gives_as (All_results at hi (with_name i.0 (s ts) inside) e2 (s at)) (Turn_now start) (means W (Evaluate e2 at body)) (law e2)
+            gives_quiet (All_results at hi (with_name i.0 (s ts) inside) e2 (s at)) (Turn_now start) (means W (Evaluate e2 at body)) (λ r q. q (m2, counter_env j m' e E')) (law e2)
             (λ u r. turned start w x m2 (λ d o. named_else i.0 (word v) m' d (beyond_unnamed N types τ W (i.0 ∷ []) ts te (λ c q. one_inside c (nat_eq c i.0) refl q) d o)) u (r (m2, counter_env j m' e E'))))
           where
             one_inside : (c : ℕ) (b : Bool) → nat_eq c i.0 ≡ b → cond b true false ≡ true → (ts ≤ W.sizing.home c) × (W.sizing.home c < te)
@@ -389,21 +401,21 @@ module _ (N : Names) (types : Sub) (τ : Meant) (W : World) (S : Sound N types W
         row_kept w x v d o o' = row_inside (named_by p w (taking (L.named).what (bind_ids sizes) x.now)) v d (outside_narrower N types τ W lo te ts te (omega (arith, l0, l1)) (omega arith) d o)
             ∙ inside_beyond N types τ W S one p sizes lo mid ts hi (s lo) L.named l0 l1 (omega (arith, l2, l3, l4)) w x.now d (outside_narrower N types τ W lo te (1 + lo) mid (omega arith) (omega (arith, l1, l2)) d o) ∙ x.kept_there d o o'
 
-        pub row_turn : ((e : FlatEnv) → Gives (All_results at hi (with_pattern W.sizing.size_at q ts (with_pattern W.sizing.size_at p (1 + lo) (with_size_names (bind_ids sizes) G))) e (s at)) (means W (Evaluate e at body))) → (d : Datum) (w : FlatValue) → Has_datum N τ start no_frames t d → Turn_now start w
-            → Gives (Turn_now start) (Then (the (bound (1 + lo) p w env)) (λ e. Then (the (bound ts q (as_value d) e)) (λ e. means W (Evaluate e at body))))
+        pub row_turn : ((e : FlatEnv) → Gives (Quiet N types τ W at hi (with_pattern W.sizing.size_at q ts (with_pattern W.sizing.size_at p (1 + lo) (with_size_names (bind_ids sizes) G))) e) (All_results at hi (with_pattern W.sizing.size_at q ts (with_pattern W.sizing.size_at p (1 + lo) (with_size_names (bind_ids sizes) G))) e (s at)) (means W (Evaluate e at body))) → (d : Datum) (w : FlatValue) → Has_datum N τ start no_frames t d → Turn_now start w
+            → Gives (There W.is_there) (Turn_now start) (Then (the (bound (1 + lo) p w env)) (λ e. Then (the (bound ts q (as_value d) e)) (λ e. means W (Evaluate e at body))))
         row_turn law d w hd x = gives_then (λ e. Env_of ts hi (named_by p w (taking (L.named).what (bind_ids sizes) x.now)) inside e) (Turn_now start) _ _
-            (gives_exact _ 0 (bound (1 + lo) p w env) (bound_there w x))
+            (gives_exact _ _ 0 (bound (1 + lo) p w env) (bound_there w x))
             (λ e E'. let v : FlatValue = as_value d in
             let m' : Worth = named_by p w (taking (L.named).what (bind_ids sizes) x.now) in
             let m2 : Worth = named_by q v m' in
-            let fits : Of m2 t v = fits_same (λ d. Beyond lo te d × Beyond at hi d) start m2 N τ W.sizing (calls W) (λ k o. sym (row_kept w x v k o.0 o.1)) t 0 no_frames no_frames row_away (λ j i l. refl) v
-            (datum_fits N τ W.sizing (calls W) start no_frames t data_t v d (datum_of_as Ref BindId (Unit {0}) d) hd) in
+            let fits : Of m2 t v = fits_same (λ d. Beyond lo te d × Beyond at hi d) start m2 N τ W.sizing W.is_there (calls W) (λ k o. sym (row_kept w x v k o.0 o.1)) t 0 no_frames no_frames row_away (λ j i l. refl) v
+            (datum_fits N τ W.sizing W.is_there (calls W) start no_frames t data_t v d (datum_of_as Ref BindId (Unit {0}) d) hd) in
             let E2 = env_moves N types τ W ts hi at hi m' m2 inside e (omega (arith, l2, l3)) (omega arith) (λ k o. row_inside m' v k (outside_narrower N types τ W ts hi ts te (omega arith) (omega (arith, l3, l4)) k o)) E' in
             gives_then (λ e. Env_of at hi m2 (with_pattern W.sizing.size_at q ts inside) e) (Turn_now start) _ _
-            (gives_exact _ 0 (bound ts q v e)
-            (enters N types τ W S one at hi m2 (λ d. d) (λ d. refl) q ts t v inside (with_entered (s ts) inside) e (λ e x. x) at_home simple (omega (arith, l5, l3))
+            (gives_exact _ _ 0 (bound ts q v e)
+            (enters N types τ W S one at hi m2 (λ d. d) (λ d. refl) q ts t v inside e at_home simple (omega (arith, l5, l3))
             (nodes_away N types τ W at hi (λ d. d) (λ d. refl) q ts t takes (each_as (Scoped (λ d. Beyond lo te d × Beyond at hi d)) (Scoped (Beyond at hi)) row_apart t 0 row_away)) takes fits (names_worth N types τ W q ts v m' at_home simple) E2))
-            (λ e2 E3. gives_as (All_results at hi (with_pattern W.sizing.size_at q ts inside) e2 (s at)) (Turn_now start) (means W (Evaluate e2 at body)) (law e2)
+            (λ e2 E3. gives_quiet (All_results at hi (with_pattern W.sizing.size_at q ts inside) e2 (s at)) (Turn_now start) (means W (Evaluate e2 at body)) (λ r q. q (m2, E3)) (law e2)
             (λ u r. turned start w x m2 (λ k o. row_inside m' v k o) u (r (m2, E3)))))
           where
             row_apart : (j : ℕ) (d : Dim) → Scoped (λ d. Beyond lo te d × Beyond at hi d) j d → Scoped (Beyond at hi) j d

@@ -1,4 +1,7 @@
 -- `map2` to `map5` are of their sized types where results hold no arrays: they go over arrays of one size side by side.
+use Rattle.std.proofs.Common.{eq-eqb}
+use Rattle.sized_meaning.proofs.Size_reports.{datum_fine}
+use Rattle.sized_meaning.specs.There.{There}
 use Rattle.std.specs.Prelude.{map}
 use Rattle.std.proofs.Common.{◌≡◌, ℕ, suc, ◌<◌, ◌≤◌, List, [], ◌∷◌, ◌++◌, length, None, Bool, true, false, cond, nat_eq, refl, sym, ap, ◌∙◌, subst, arith, append_assoc}
 use Rattle.fut_scalar.specs.declared.place.Place.{Place}
@@ -80,7 +83,7 @@ module _ (N : Names) (types : Sub) (τ : Meant) (W : World) (S : Sound N types W
   level_moved b closed φ ψ x y (Array_datum row ds) e h = (h.0 ∙ e, shape_anywhere N types τ W S one m b closed φ ψ row h.1, every_datum_goes (Has_datum N τ m φ b) (Has_datum N τ m ψ b) (λ d k. datum_anywhere N types τ W S one m b closed φ ψ d k) ds h.2)
   level_moved b closed φ ψ x y d e h = absurd h
 
-  fits_moved : (b : Size) → Each (Scoped Any_free) 0 b → (φ ψ : Frames) (x y : Dim) (v : FlatValue) → number m φ x ≡ number m ψ y → Fits N τ W.sizing (calls W) m φ (Level x b) v → Fits N τ W.sizing (calls W) m ψ (Level y b) v
+  fits_moved : (b : Size) → Each (Scoped Any_free) 0 b → (φ ψ : Frames) (x y : Dim) (v : FlatValue) → number m φ x ≡ number m ψ y → Fits N τ W.sizing W.is_there (calls W) m φ (Level x b) v → Fits N τ W.sizing W.is_there (calls W) m ψ (Level y b) v
   unfolding Fits
   fits_moved b closed φ ψ x y v e h = record { datum = h.datum; is_datum = h.is_datum; fits = level_moved b closed φ ψ x y h.datum e h.fits }
 
@@ -90,7 +93,7 @@ module _ (N : Names) (types : Sub) (τ : Meant) (W : World) (S : Sound N types W
     Arrays [] [] = Unit {0}
     Arrays [] (x ∷ xs) = ⊥
     Arrays (b ∷ bs) [] = ⊥
-    Arrays (b ∷ bs) (x ∷ xs) = Fits N τ W.sizing (calls W) m (all_are n) (Level (Bound 0 0) b) x × Arrays bs xs
+    Arrays (b ∷ bs) (x ∷ xs) = Fits N τ W.sizing W.is_there (calls W) m (all_are n) (Level (Bound 0 0) b) x × Arrays bs xs
 
     abbrev Datas : List Size → List Datum → Type 0
     Datas [] [] = Unit {0}
@@ -110,7 +113,7 @@ module _ (N : Names) (types : Sub) (τ : Meant) (W : World) (S : Sound N types W
     Shapes_are (b ∷ bs) [] = ⊥
     Shapes_are (b ∷ bs) (h ∷ hs) = Has_shape N τ m (all_are n) b h × Shapes_are bs hs
 
-    arrays_on : (bs : List Size) (xs : List FlatValue) (b : Size) (v : FlatValue) → Arrays bs xs → Fits N τ W.sizing (calls W) m (all_are n) (Level (Bound 0 0) b) v → Arrays (bs ++ b ∷ []) (xs ++ v ∷ [])
+    arrays_on : (bs : List Size) (xs : List FlatValue) (b : Size) (v : FlatValue) → Arrays bs xs → Fits N τ W.sizing W.is_there (calls W) m (all_are n) (Level (Bound 0 0) b) v → Arrays (bs ++ b ∷ []) (xs ++ v ∷ [])
     arrays_on [] [] b v h k = (k, tt)
     arrays_on [] (x ∷ xs) b v h k = absurd h
     arrays_on (c ∷ bs) [] b v h k = absurd h
@@ -122,14 +125,14 @@ module _ (N : Names) (types : Sub) (τ : Meant) (W : World) (S : Sound N types W
     arrays_long (c ∷ bs) [] h = absurd h
     arrays_long (c ∷ bs) (x ∷ xs) h = ap suc (arrays_long bs xs h.1)
 
-    datas_out : (bs : List Size) (xs : List FlatValue) → Arrays bs xs → Out_fits (Datas bs) (all_data xs)
+    datas_out : (bs : List Size) (xs : List FlatValue) → Arrays bs xs → Out_fits (There W.is_there) (Datas bs) (all_data xs)
     unfolding Fits
     datas_out [] [] h = tt
     datas_out [] (x ∷ xs) h = absurd h
     datas_out (c ∷ bs) [] h = absurd h
-    datas_out (c ∷ bs) (x ∷ xs) h = out_then (Has_datum N τ m (all_are n) (Level (Bound 0 0) c)) (Datas (c ∷ bs)) (datum_of x) (λ d. and_then (all_data xs) (λ ds. Val (d ∷ ds)))
-        (subst (Out_fits (Has_datum N τ m (all_are n) (Level (Bound 0 0) c))) (sym (h.0).is_datum) (h.0).fits)
-        (λ d k. out_then (Datas bs) (Datas (c ∷ bs)) (all_data xs) (λ ds. Val (d ∷ ds)) (datas_out bs xs h.1) (λ ds r. (k, r)))
+    datas_out (c ∷ bs) (x ∷ xs) h = out_then _ (Has_datum N τ m (all_are n) (Level (Bound 0 0) c)) (Datas (c ∷ bs)) (datum_of x) (λ d. and_then (all_data xs) (λ ds. Val (d ∷ ds)))
+        (subst (Out_fits (There W.is_there) (Has_datum N τ m (all_are n) (Level (Bound 0 0) c))) (sym (h.0).is_datum) (h.0).fits)
+        (λ d k. out_then _ (Datas bs) (Datas (c ∷ bs)) (all_data xs) (λ ds. Val (d ∷ ds)) (datas_out bs xs h.1) (λ ds r. (k, r)))
 
     row_shapes : (bs : List Size) (ds : List Datum) → Datas bs ds → Shapes_are bs (map (λ d. row_of (shape_of d)) ds)
     unfolding Has_datum shape_of
@@ -139,38 +142,38 @@ module _ (N : Names) (types : Sub) (τ : Meant) (W : World) (S : Sound N types W
     row_shapes (b ∷ bs) (Array_datum row es ∷ ds) h = ((h.0).1, row_shapes bs ds h.1)
     row_shapes (b ∷ bs) (d ∷ ds) h = absurd h.0
 
-    columns_out : (at : Place) (b : Size) (bs : List Size) (r : Rows) (ds : List Datum) → length r.1 ≡ n → Every (Has_datum N τ m (all_are n) b) r.1 → Datas bs ds → Out_fits (λ rows. Every (Row_of (b ∷ bs)) rows × (length rows ≡ n)) (columns false at r ds)
+    columns_out : (at : Place) (b : Size) (bs : List Size) (r : Rows) (ds : List Datum) → length r.1 ≡ n → Every (Has_datum N τ m (all_are n) b) r.1 → Datas bs ds → Out_fits (There W.is_there) (λ rows. Every (Row_of (b ∷ bs)) rows × (length rows ≡ n)) (columns false at r ds)
     unfolding Has_datum
     columns_out at b [] r [] l e h = let z = alone_every (Has_datum N τ m (all_are n) b) (Row_of (b ∷ [])) (λ d k. (k, tt)) r.1 e in (z.0, z.1 ∙ l)
     columns_out at b [] r (d ∷ ds) l e h = absurd h
     columns_out at b (c ∷ bs) r [] l e h = absurd h
-    columns_out at b (c ∷ bs) r (Array_datum row es ∷ ds) l e h = tested (nat_eq (length r.1) (length (listed es))) (columns_out at c bs (row, listed es) ds (h.0).0 (every_listed (Has_datum N τ m (all_are n) c) es (h.0).2) h.1)
+    columns_out at b (c ∷ bs) r (Array_datum row es ∷ ds) l e h = tested (nat_eq (length r.1) (length (listed es))) (eq-eqb (length r.1) (length (listed es)) (l ∙ sym (h.0).0)) (columns_out at c bs (row, listed es) ds (h.0).0 (every_listed (Has_datum N τ m (all_are n) c) es (h.0).2) h.1)
       where
-        tested : (t : Bool) → Out_fits (λ rows. Every (Row_of (c ∷ bs)) rows × (length rows ≡ n)) (columns false at (row, listed es) ds) → Out_fits (λ rows. Every (Row_of (b ∷ c ∷ bs)) rows × (length rows ≡ n)) (fitting false t at (and_then (columns false at (row, listed es) ds) (λ rs. Val (beside r.1 rs))))
-        tested false others = tt
-        tested true others = out_then (λ rows. Every (Row_of (c ∷ bs)) rows × (length rows ≡ n)) (λ rows. Every (Row_of (b ∷ c ∷ bs)) rows × (length rows ≡ n)) (columns false at (row, listed es) ds) (λ rs. Val (beside r.1 rs)) others
+        tested : (t : Bool) → t ≡ true → Out_fits (There W.is_there) (λ rows. Every (Row_of (c ∷ bs)) rows × (length rows ≡ n)) (columns false at (row, listed es) ds) → Out_fits (There W.is_there) (λ rows. Every (Row_of (b ∷ c ∷ bs)) rows × (length rows ≡ n)) (fitting false t at (and_then (columns false at (row, listed es) ds) (λ rs. Val (beside r.1 rs))))
+        tested false q others = absurd (let z : false ≡ true = q in cc)
+        tested true q others = out_then _ (λ rows. Every (Row_of (c ∷ bs)) rows × (length rows ≡ n)) (λ rows. Every (Row_of (b ∷ c ∷ bs)) rows × (length rows ≡ n)) (columns false at (row, listed es) ds) (λ rs. Val (beside r.1 rs)) others
             (λ rs k. let z = beside_every (Has_datum N τ m (all_are n) b) (Row_of (c ∷ bs)) (Row_of (b ∷ c ∷ bs)) (λ d rs p q. (p, q)) r.1 rs (l ∙ sym k.1) e k.0 in (z.0, z.1 ∙ l))
     columns_out at b (c ∷ bs) r (d ∷ ds) l e h = absurd h.0
 
     -- ---- a function of rows
     module _ (c : Size) (closed_c : Closed_data c) where
-      row_called : (bs : List Size) → All_closed bs → (φ : Frames) (g : FlatValue) (ds : List Datum) → Fits N τ W.sizing (calls W) m φ (from_rows bs c) g → Row_of bs ds → Gives (Has_datum N τ m (all_are n) c) (called (means W) g ds)
+      row_called : (bs : List Size) → All_closed bs → (φ : Frames) (g : FlatValue) (ds : List Datum) → Fits N τ W.sizing W.is_there (calls W) m φ (from_rows bs c) g → Row_of bs ds → Gives (There W.is_there) (Has_datum N τ m (all_are n) c) (called (means W) g ds)
       unfolding Fits
-      row_called [] a φ g [] hg h = gives_exact (Has_datum N τ m (all_are n) c) 0 (datum_of g) (out_of (Has_datum N τ m (all_are n) c) (datum_of g) (λ x e. datum_anywhere N types τ W S one m c closed_c.1 φ (all_are n) x (fits_datum N τ W.sizing (calls W) m φ c closed_c.0 g x e hg)))
+      row_called [] a φ g [] hg h = gives_exact _ (Has_datum N τ m (all_are n) c) 0 (datum_of g) (out_of _ (Has_datum N τ m (all_are n) c) (datum_of g) (datum_fine W.is_there g) (λ x e. datum_anywhere N types τ W S one m c closed_c.1 φ (all_are n) x (fits_datum N τ W.sizing W.is_there (calls W) m φ c closed_c.0 g x e hg)))
       row_called [] a φ g (d ∷ ds) hg h = absurd h
       row_called (b ∷ bs) a φ g [] hg h = absurd h
       row_called (b ∷ bs) a φ g (d ∷ ds) hg h =
           let F : ℕ → ℕ = λ i. word (as_value d) in
-          gives_then (λ w. (F' : ℕ → ℕ) × ((i : ℕ) → i ≤ 0 → F' i ≡ word (as_value d)) × Fits N τ W.sizing (calls W) m (push F' φ) (from_rows bs c) w) (Has_datum N τ m (all_are n) c) (means W (Call g (as_value d))) (λ g. called (means W) g ds)
-          (hg.1 F (as_value d) refl (datum_fits N τ W.sizing (calls W) m (push F φ) b (a.0).0 (as_value d) d (datum_of_as Ref BindId (Unit {0}) d) (datum_anywhere N types τ W S one m b (a.0).1 (all_are n) (push F φ) d h.0)))
+          gives_then (λ w. (F' : ℕ → ℕ) × ((i : ℕ) → i ≤ 0 → F' i ≡ word (as_value d)) × Fits N τ W.sizing W.is_there (calls W) m (push F' φ) (from_rows bs c) w) (Has_datum N τ m (all_are n) c) (means W (Call g (as_value d))) (λ g. called (means W) g ds)
+          (hg.1 F (as_value d) refl (datum_fits N τ W.sizing W.is_there (calls W) m (push F φ) b (a.0).0 (as_value d) d (datum_of_as Ref BindId (Unit {0}) d) (datum_anywhere N types τ W S one m b (a.0).1 (all_are n) (push F φ) d h.0)))
           (λ w q. row_called bs a.1 (push q.0 φ) w ds q.2 h.1)
 
-      on_row : (k : ℕ) (bs : List Size) → All_closed bs → (φ : Frames) (g : FlatValue) (ds : List Datum) → Fits N τ W.sizing (calls W) m φ (from_rows bs c) g → Row_of bs ds → Gives (Has_datum N τ m (all_are n) c) (called_on k (means W) g ds)
+      on_row : (k : ℕ) (bs : List Size) → All_closed bs → (φ : Frames) (g : FlatValue) (ds : List Datum) → Fits N τ W.sizing W.is_there (calls W) m φ (from_rows bs c) g → Row_of bs ds → Gives (There W.is_there) (Has_datum N τ m (all_are n) c) (called_on k (means W) g ds)
       on_row k bs a φ g ds hg h = tested (nat_eq (length ds) k)
         where
-          tested : (t : Bool) → Gives (Has_datum N τ m (all_are n) c) (choose t (called (means W) g ds) (the Wrong))
+          tested : (t : Bool) → Gives (There W.is_there) (Has_datum N τ m (all_are n) c) (choose t (called (means W) g ds) (the Wrong))
           tested true = row_called bs a φ g ds hg h
-          tested false = gives_exact (Has_datum N τ m (all_are n) c) 0 Wrong tt
+          tested false = gives_exact _ (Has_datum N τ m (all_are n) c) 0 Wrong tt
 
       flat_rows : (bs : List Size) → Flat_result c → Flat_result (from_rows bs c)
       unfolding Flat_result
@@ -193,10 +196,10 @@ module _ (N : Names) (types : Sub) (τ : Meant) (W : World) (S : Sound N types W
   module _ (p : Primitive) (k : ℕ) (at : Place) (a : Size) (others : List Size) (c : Size) (closed_a : Closed_data a) (closed_others : All_closed others) (closed_c : Closed_data c) (flat_c : Flat_result c)
       (is_map : (row : Shape) (ds : List Datum) → job false row p at ds ≡ mapped false row at ds) (tells_rows : (bs : List Argument) → primitive_tells p bs ≡ mapped_rows bs)
       (rows_told : (f : FlatValue) (ds : List Datum) → row_told ((flat_names (told W)).lang W.tops) (Of_function p f ds) ≡ tells W.sizing f (map (λ d. row_of (shape_of d)) ds))
-      (waits : (Q : FlatValue → Type 0) (f : FlatValue) (xs : List FlatValue) (v : FlatValue) → length (xs ++ v ∷ []) < suc (length others) → Gives Q (gives 0 (Primitive_value p at (value_and f (values (xs ++ v ∷ []))))) → Gives Q (calls W (Primitive_value p at (value_and f (values xs))) v))
-      (runs : (Q : FlatValue → Type 0) (f : FlatValue) (xs : List FlatValue) (v : FlatValue) → length (xs ++ v ∷ []) ≡ suc (length others) → Gives Q (Then (the (all_data (xs ++ v ∷ []))) (λ ds. Then (the (job false (row_told ((flat_names (told W)).lang W.tops) (Of_function p f ds)) p at ds)) (job_of ((flat_names (told W)).lang W.tops) (plain W.tight) W.budget (means W) k f)))
-      → Gives Q (calls W (Primitive_value p at (value_and f (values xs))) v)) where
-    module _ (φ : Frames) (f : FlatValue) (hf : Fits N τ W.sizing (calls W) m φ (Fun 0 a (from_rows others c)) f) where
+      (waits : (Q : FlatValue → Type 0) (f : FlatValue) (xs : List FlatValue) (v : FlatValue) → length (xs ++ v ∷ []) < suc (length others) → Gives (There W.is_there) Q (gives 0 (Primitive_value p at (value_and f (values (xs ++ v ∷ []))))) → Gives (There W.is_there) Q (calls W (Primitive_value p at (value_and f (values xs))) v))
+      (runs : (Q : FlatValue → Type 0) (f : FlatValue) (xs : List FlatValue) (v : FlatValue) → length (xs ++ v ∷ []) ≡ suc (length others) → Gives (There W.is_there) Q (Then (the (all_data (xs ++ v ∷ []))) (λ ds. Then (the (job false (row_told ((flat_names (told W)).lang W.tops) (Of_function p f ds)) p at ds)) (job_of ((flat_names (told W)).lang W.tops) (plain W.tight) W.budget (means W) k f)))
+      → Gives (There W.is_there) Q (calls W (Primitive_value p at (value_and f (values xs))) v)) where
+    module _ (φ : Frames) (f : FlatValue) (hf : Fits N τ W.sizing W.is_there (calls W) m φ (Fun 0 a (from_rows others c)) f) where
       is_a_function : is_function f ≡ true
       unfolding Fits
       is_a_function = hf.0.0
@@ -207,37 +210,37 @@ module _ (N : Names) (types : Sub) (τ : Meant) (W : World) (S : Sound N types W
       told_of n [] h = absurd h
       told_of n (x ∷ hs) h = told_rows n c closed_c others closed_others (push (λ i. 0) φ) (λ hs. tells W.sizing f (x ∷ hs)) hs (hf.0.1 (rows_known n c closed_c (0 ∷ []) others closed_others flat_c) (λ i. 0) x (shape_anywhere N types τ W S one m a closed_a.1 (all_are n) (push (λ i. 0) φ) x h.0)) h.1
 
-      job_out : (n : ℕ) (row : Shape) (ds : List Datum) → Datas n (a ∷ others) ds → Out_fits (λ j. (rows : List (List Datum)) × (j ≡ Apply_each rows (array_of_results false row at)) × Every (Row_of n (a ∷ others)) rows × (length rows ≡ n)) (mapped false row at ds)
+      job_out : (n : ℕ) (row : Shape) (ds : List Datum) → Datas n (a ∷ others) ds → Out_fits (There W.is_there) (λ j. (rows : List (List Datum)) × (j ≡ Apply_each rows (array_of_results false row at)) × Every (Row_of n (a ∷ others)) rows × (length rows ≡ n)) (mapped false row at ds)
       unfolding Has_datum
       job_out n row [] h = absurd h
-      job_out n row (Array_datum r es ∷ ds) h = out_then (λ rows. Every (Row_of n (a ∷ others)) rows × (length rows ≡ n)) (λ j. (rows : List (List Datum)) × (j ≡ Apply_each rows (array_of_results false row at)) × Every (Row_of n (a ∷ others)) rows × (length rows ≡ n)) (columns false at (r, listed es) ds) (λ rows. Val (Apply_each rows (array_of_results false row at)))
+      job_out n row (Array_datum r es ∷ ds) h = out_then _ (λ rows. Every (Row_of n (a ∷ others)) rows × (length rows ≡ n)) (λ j. (rows : List (List Datum)) × (j ≡ Apply_each rows (array_of_results false row at)) × Every (Row_of n (a ∷ others)) rows × (length rows ≡ n)) (columns false at (r, listed es) ds) (λ rows. Val (Apply_each rows (array_of_results false row at)))
           (columns_out n at a others (r, listed es) ds (h.0).0 (every_listed (Has_datum N τ m (all_are n) a) es (h.0).2) h.1) (λ rows q. (rows, refl, q.0, q.1))
       job_out n row (d ∷ ds) h = absurd h.0
 
       abbrev Results : ℕ → Datum → Type 0
       Results n d = Has_datum N τ m (all_are n) (Level (Bound 0 0) c) d
 
-      finishes : (n : ℕ) (row : Shape) (ys : List Datum) → length ys ≡ n → Has_shape N τ m (all_are n) c row → Every (Has_datum N τ m (all_are n) c) ys → Gives (Results n) (finished (array_of_results false row at) ys)
+      finishes : (n : ℕ) (row : Shape) (ys : List Datum) → length ys ≡ n → Has_shape N τ m (all_are n) c row → Every (Has_datum N τ m (all_are n) c) ys → Gives (There W.is_there) (Results n) (finished (array_of_results false row at) ys)
       finishes n row ys l h e = gives_then (λ r. Results n r.1) (Results n) _ _
-          (gives_exact (λ r. Results n r.1) 0 (array_of_results false row at ys) (out_then (Results n) (λ r. Results n r.1) (array false at row ys) fresh (array_gives N types τ W S one m (all_are n) (Bound 0 0) c at row ys l h e) (λ d x. x)))
-          (λ r x. gives_exact (Results n) r.0 (Val r.1) x)
+          (gives_exact _ (λ r. Results n r.1) 0 (array_of_results false row at ys) (out_then _ (Results n) (λ r. Results n r.1) (array false at row ys) fresh (array_gives N types τ W S one m (all_are n) (Bound 0 0) c at row ys l h e) (λ d x. x)))
+          (λ r x. gives_exact _ (Results n) r.0 (Val r.1) x)
 
       abbrev Mapped : ℕ → FlatValue → Type 0
-      Mapped n w = Fits N τ W.sizing (calls W) m (all_are n) (Level (Bound 0 0) c) w
+      Mapped n w = Fits N τ W.sizing W.is_there (calls W) m (all_are n) (Level (Bound 0 0) c) w
 
-      goes_over : (n : ℕ) (xs : List FlatValue) → Arrays n (a ∷ others) xs → Gives (Mapped n) (Then (the (all_data xs)) (λ ds. Then (the (job false (row_told ((flat_names (told W)).lang W.tops) (Of_function p f ds)) p at ds)) (job_of ((flat_names (told W)).lang W.tops) (plain W.tight) W.budget (means W) k f)))
+      goes_over : (n : ℕ) (xs : List FlatValue) → Arrays n (a ∷ others) xs → Gives (There W.is_there) (Mapped n) (Then (the (all_data xs)) (λ ds. Then (the (job false (row_told ((flat_names (told W)).lang W.tops) (Of_function p f ds)) p at ds)) (job_of ((flat_names (told W)).lang W.tops) (plain W.tight) W.budget (means W) k f)))
       unfolding plain
-      goes_over n xs hx = gives_then (Datas n (a ∷ others)) (Mapped n) _ _ (gives_exact (Datas n (a ∷ others)) 0 (all_data xs) (datas_out n (a ∷ others) xs hx))
-          (λ ds hd. subst (λ row. Gives (Mapped n) (Then (the (job false row p at ds)) (job_of ((flat_names (told W)).lang W.tops) (plain W.tight) W.budget (means W) k f))) (sym (rows_told f ds))
-          (subst (λ o. Gives (Mapped n) (Then (the o) (job_of ((flat_names (told W)).lang W.tops) (plain W.tight) W.budget (means W) k f))) (sym (is_map (tells W.sizing f (map (λ d. row_of (shape_of d)) ds)) ds))
+      goes_over n xs hx = gives_then (Datas n (a ∷ others)) (Mapped n) _ _ (gives_exact _ (Datas n (a ∷ others)) 0 (all_data xs) (datas_out n (a ∷ others) xs hx))
+          (λ ds hd. subst (λ row. Gives (There W.is_there) (Mapped n) (Then (the (job false row p at ds)) (job_of ((flat_names (told W)).lang W.tops) (plain W.tight) W.budget (means W) k f))) (sym (rows_told f ds))
+          (subst (λ o. Gives (There W.is_there) (Mapped n) (Then (the o) (job_of ((flat_names (told W)).lang W.tops) (plain W.tight) W.budget (means W) k f))) (sym (is_map (tells W.sizing f (map (λ d. row_of (shape_of d)) ds)) ds))
           (gives_then (λ j. (rows : List (List Datum)) × (j ≡ Apply_each rows (array_of_results false (tells W.sizing f (map (λ d. row_of (shape_of d)) ds)) at)) × Every (Row_of n (a ∷ others)) rows × (length rows ≡ n)) (Mapped n) _ _
-          (gives_exact _ 0 _ (job_out n (tells W.sizing f (map (λ d. row_of (shape_of d)) ds)) ds hd))
-          (λ j q. subst (λ z. Gives (Mapped n) (job_of ((flat_names (told W)).lang W.tops) (plain W.tight) W.budget (means W) k f z)) (sym q.1)
+          (gives_exact _ _ 0 _ (job_out n (tells W.sizing f (map (λ d. row_of (shape_of d)) ds)) ds hd))
+          (λ j q. subst (λ z. Gives (There W.is_there) (Mapped n) (job_of ((flat_names (told W)).lang W.tops) (plain W.tight) W.budget (means W) k f z)) (sym q.1)
           (gives_then (Results n) (Mapped n) _ _
           (gives_then (λ ys. Every (Has_datum N τ m (all_are n) c) ys × (length ys ≡ length q.0)) (Results n) _ _
           (gives_each (Row_of n (a ∷ others)) (Has_datum N τ m (all_are n) c) (called_on k (means W) f) (λ r x. on_row n c closed_c k (a ∷ others) (closed_a, closed_others) φ f r hf x) q.0 q.2)
           (λ ys y. finishes n (tells W.sizing f (map (λ d. row_of (shape_of d)) ds)) ys (y.1 ∙ q.3) (told_of n (map (λ d. row_of (shape_of d)) ds) (row_shapes n (a ∷ others) ds hd)) y.0))
-          (λ x y. gives_exact (Mapped n) 0 (Val (as_value x)) (array_value N types τ W S one m (all_are n) (Bound 0 0) c x y)))))))
+          (λ x y. gives_exact _ (Mapped n) 0 (Val (as_value x)) (array_value N types τ W S one m (all_are n) (Bound 0 0) c x y)))))))
 
       -- ---- what it tells once one array is missing
       args_told : (n : ℕ) (bs : List Size) → All_closed bs → (xs : List FlatValue) (h : Shape) → Arrays n bs xs → data_told (values xs) ((h, None) ∷ []) ≡ told_args xs h
@@ -259,7 +262,7 @@ module _ (N : Names) (types : Sub) (τ : Meant) (W : World) (S : Sound N types W
       shapes_told n [] cl b [] h hx k = ((array_shape n b h k).1, tt)
       shapes_told n [] cl b (x ∷ xs) h hx k = absurd hx
       shapes_told n (e ∷ bs) cl b [] h hx k = absurd hx
-      shapes_told n (e ∷ bs) cl b (x ∷ xs) h hx k = ((array_shape n e (value_shape x) (value_shaped N τ W.sizing (calls W) m (all_are n) (Level (Bound 0 0) e) (level_data (Bound 0 0) e (cl.0).0) x hx.0)).1, shapes_told n bs cl.1 b xs h hx.1 k)
+      shapes_told n (e ∷ bs) cl b (x ∷ xs) h hx k = ((array_shape n e (value_shape x) (value_shaped N τ W.sizing W.is_there (calls W) m (all_are n) (Level (Bound 0 0) e) (level_data (Bound 0 0) e (cl.0).0) x hx.0)).1, shapes_told n bs cl.1 b xs h hx.1 k)
 
       rows_of_args : (n : ℕ) (bs : List Size) → All_closed bs → (b : Size) (xs : List FlatValue) (h : Shape) → bs ++ b ∷ [] ≡ a ∷ others → Arrays n bs xs → Has_shape N τ m (all_are n) (Level (Bound 0 0) b) h
           → Has_shape N τ m (all_are n) (Level (Bound 0 0) c) (by_function (tells W.sizing f) (mapped_rows (told_args xs h)))
@@ -268,7 +271,7 @@ module _ (N : Names) (types : Sub) (τ : Meant) (W : World) (S : Sound N types W
       rows_of_args n [] cl b (x ∷ xs) h e hx k = absurd hx
       rows_of_args n (g ∷ bs) cl b [] h e hx k = absurd hx
       rows_of_args n (g ∷ bs) cl b (x ∷ xs) h e hx k = (
-        (array_shape n g (value_shape x) (value_shaped N τ W.sizing (calls W) m (all_are n) (Level (Bound 0 0) g) (level_data (Bound 0 0) g (cl.0).0) x hx.0)).0,
+        (array_shape n g (value_shape x) (value_shaped N τ W.sizing W.is_there (calls W) m (all_are n) (Level (Bound 0 0) g) (level_data (Bound 0 0) g (cl.0).0) x hx.0)).0,
         told_of n (map argument_row (told_args (x ∷ xs) h)) (subst (λ ts. Shapes_are n ts (map argument_row (told_args (x ∷ xs) h))) e (shapes_told n (g ∷ bs) cl b (x ∷ xs) h hx k)),
       )
 
@@ -301,18 +304,18 @@ module _ (N : Names) (types : Sub) (τ : Meant) (W : World) (S : Sound N types W
       rest_tells n done cl b closed_b (g ∷ bs) xs j ψ e hx z = (refl, λ known. absurd (never_flat (suc (suc j)) bs known.2))
 
       -- it has some arrays, and takes one more
-      takes_more : (n : ℕ) (bs : List Size) → All_closed bs → (done : List Size) → All_closed done → (b : Size) → Closed_data b → (xs : List FlatValue) (j : ℕ) (ψ : Frames) (v : FlatValue) → done ++ b ∷ bs ≡ a ∷ others → Arrays n done xs → ψ j 0 ≡ n → Fits N τ W.sizing (calls W) m ψ (Level (Bound j 0) b) v
-          → Gives (Fits N τ W.sizing (calls W) m ψ (rest j bs c)) (calls W (Primitive_value p at (value_and f (values xs))) v)
+      takes_more : (n : ℕ) (bs : List Size) → All_closed bs → (done : List Size) → All_closed done → (b : Size) → Closed_data b → (xs : List FlatValue) (j : ℕ) (ψ : Frames) (v : FlatValue) → done ++ b ∷ bs ≡ a ∷ others → Arrays n done xs → ψ j 0 ≡ n → Fits N τ W.sizing W.is_there (calls W) m ψ (Level (Bound j 0) b) v
+          → Gives (There W.is_there) (Fits N τ W.sizing W.is_there (calls W) m ψ (rest j bs c)) (calls W (Primitive_value p at (value_and f (values xs))) v)
       unfolding Fits push
-      takes_more n [] cl done cl' b closed_b xs j ψ v e hx z hv = runs (Fits N τ W.sizing (calls W) m ψ (Level (Bound j 0) c)) f xs v (arrays_long n (done ++ b ∷ []) (xs ++ v ∷ []) all ∙ ap length e)
-          (gives_as (Mapped n) (Fits N τ W.sizing (calls W) m ψ (Level (Bound j 0) c)) _ (goes_over n (xs ++ v ∷ []) (subst (λ ts. Arrays n ts (xs ++ v ∷ [])) e all)) (λ w q. fits_moved c closed_c.1 (all_are n) ψ (Bound 0 0) (Bound j 0) w (sym z) q))
+      takes_more n [] cl done cl' b closed_b xs j ψ v e hx z hv = runs (Fits N τ W.sizing W.is_there (calls W) m ψ (Level (Bound j 0) c)) f xs v (arrays_long n (done ++ b ∷ []) (xs ++ v ∷ []) all ∙ ap length e)
+          (gives_as (Mapped n) (Fits N τ W.sizing W.is_there (calls W) m ψ (Level (Bound j 0) c)) _ (goes_over n (xs ++ v ∷ []) (subst (λ ts. Arrays n ts (xs ++ v ∷ [])) e all)) (λ w q. fits_moved c closed_c.1 (all_are n) ψ (Bound 0 0) (Bound j 0) w (sym z) q))
         where
           all : Arrays n (done ++ b ∷ []) (xs ++ v ∷ [])
           all = arrays_on n done xs b v hx (fits_moved b closed_b.1 ψ (all_are n) (Bound j 0) (Bound 0 0) v z hv)
-      takes_more n (g ∷ bs) cl done cl' b closed_b xs j ψ v e hx z hv = waits (Fits N τ W.sizing (calls W) m ψ (rest j (g ∷ bs) c)) f xs v shorter
-          (gives_exact (Fits N τ W.sizing (calls W) m ψ (rest j (g ∷ bs) c)) 0 (Val (Primitive_value p at (value_and f (values (xs ++ v ∷ []))))) (
+      takes_more n (g ∷ bs) cl done cl' b closed_b xs j ψ v e hx z hv = waits (Fits N τ W.sizing W.is_there (calls W) m ψ (rest j (g ∷ bs) c)) f xs v shorter
+          (gives_exact _ (Fits N τ W.sizing W.is_there (calls W) m ψ (rest j (g ∷ bs) c)) 0 (Val (Primitive_value p at (value_and f (values (xs ++ v ∷ []))))) (
             rest_tells n (done ++ b ∷ []) all_closed g cl.0 bs (xs ++ v ∷ []) j ψ e' all z,
-            λ G u eG hu. gives_as (Fits N τ W.sizing (calls W) m (push G ψ) (rest (suc j) bs c)) (λ w. (G' : ℕ → ℕ) × ((i : ℕ) → i ≤ 0 → G' i ≡ G i) × Fits N τ W.sizing (calls W) m (push G' ψ) (rest (suc j) bs c) w) (calls W (Primitive_value p at (value_and f (values (xs ++ v ∷ [])))) u)
+            λ G u eG hu. gives_as (Fits N τ W.sizing W.is_there (calls W) m (push G ψ) (rest (suc j) bs c)) (λ w. (G' : ℕ → ℕ) × ((i : ℕ) → i ≤ 0 → G' i ≡ G i) × Fits N τ W.sizing W.is_there (calls W) m (push G' ψ) (rest (suc j) bs c) w) (calls W (Primitive_value p at (value_and f (values (xs ++ v ∷ [])))) u)
                 (takes_more n bs cl.1 (done ++ b ∷ []) all_closed g cl.0 (xs ++ v ∷ []) (suc j) (push G ψ) u e' all z hu) (λ w q. (G, (λ i l. refl), q)),
           ))
         where
@@ -332,22 +335,22 @@ module _ (N : Names) (types : Sub) (τ : Meant) (W : World) (S : Sound N types W
               longer [] g bs = omega arith
               longer (y ∷ ys) g bs = let r = longer ys g bs in omega (arith, r)
 
-    not_yet : (a2 : Size) (more : List Size) (ψ : Frames) (f : FlatValue) (hf : Fits N τ W.sizing (calls W) m ψ (Fun 0 a (from_rows others c)) f) → others ≡ a2 ∷ more → Known_result Any_free (1 ∷ []) (rest 0 others c) → ⊥
+    not_yet : (a2 : Size) (more : List Size) (ψ : Frames) (f : FlatValue) (hf : Fits N τ W.sizing W.is_there (calls W) m ψ (Fun 0 a (from_rows others c)) f) → others ≡ a2 ∷ more → Known_result Any_free (1 ∷ []) (rest 0 others c) → ⊥
     unfolding Known_result
     not_yet a2 more ψ f hf e known = let known' : Known_result Any_free (1 ∷ []) (rest 0 (a2 ∷ more) c) = subst (λ ts. Known_result Any_free (1 ∷ []) (rest 0 ts c)) e known in never_flat ψ f hf 1 more known'.2
 
-    pub several_fit : (a2 : Size) (more : List Size) → others ≡ a2 ∷ more → ((Q : FlatValue → Type 0) (f : FlatValue) → Gives Q (gives 0 (Primitive_value p at (value_and f no_value))) → Gives Q (calls W (Primitive_value p at no_value) f)) → (φ : Frames)
-        → Fits N τ W.sizing (calls W) m φ (Fun 0 (Fun 0 a (from_rows others c)) (Fun 1 (Level (Bound 0 0) a) (rest 0 others c))) (Primitive_value p at no_value)
+    pub several_fit : (a2 : Size) (more : List Size) → others ≡ a2 ∷ more → ((Q : FlatValue → Type 0) (f : FlatValue) → Gives (There W.is_there) Q (gives 0 (Primitive_value p at (value_and f no_value))) → Gives (There W.is_there) Q (calls W (Primitive_value p at no_value) f)) → (φ : Frames)
+        → Fits N τ W.sizing W.is_there (calls W) m φ (Fun 0 (Fun 0 a (from_rows others c)) (Fun 1 (Level (Bound 0 0) a) (rest 0 others c))) (Primitive_value p at no_value)
     unfolding Fits Has_shape push
     several_fit a2 more e begins φ = (
       (refl, λ known F h hx. absurd hx),
-      λ F f eF hf. begins (λ w. (F' : ℕ → ℕ) × ((i : ℕ) → i ≤ 0 → F' i ≡ F i) × Fits N τ W.sizing (calls W) m (push F' φ) (Fun 1 (Level (Bound 0 0) a) (rest 0 others c)) w) f
-          (gives_exact (λ w. (F' : ℕ → ℕ) × ((i : ℕ) → i ≤ 0 → F' i ≡ F i) × Fits N τ W.sizing (calls W) m (push F' φ) (Fun 1 (Level (Bound 0 0) a) (rest 0 others c)) w) 0 (Val (Primitive_value p at (value_and f no_value))) (
+      λ F f eF hf. begins (λ w. (F' : ℕ → ℕ) × ((i : ℕ) → i ≤ 0 → F' i ≡ F i) × Fits N τ W.sizing W.is_there (calls W) m (push F' φ) (Fun 1 (Level (Bound 0 0) a) (rest 0 others c)) w) f
+          (gives_exact _ (λ w. (F' : ℕ → ℕ) × ((i : ℕ) → i ≤ 0 → F' i ≡ F i) × Fits N τ W.sizing W.is_there (calls W) m (push F' φ) (Fun 1 (Level (Bound 0 0) a) (rest 0 others c)) w) 0 (Val (Primitive_value p at (value_and f no_value))) (
             F,
             (λ i l. refl),
             (
               (refl, λ known. absurd (not_yet a2 more (push F φ) f hf e known)),
-              λ G v eG hv. gives_as (Fits N τ W.sizing (calls W) m (push G (push F φ)) (rest 0 others c)) (λ w. (G' : ℕ → ℕ) × ((i : ℕ) → i ≤ 1 → G' i ≡ G i) × Fits N τ W.sizing (calls W) m (push G' (push F φ)) (rest 0 others c) w) (calls W (Primitive_value p at (value_and f no_value)) v)
+              λ G v eG hv. gives_as (Fits N τ W.sizing W.is_there (calls W) m (push G (push F φ)) (rest 0 others c)) (λ w. (G' : ℕ → ℕ) × ((i : ℕ) → i ≤ 1 → G' i ≡ G i) × Fits N τ W.sizing W.is_there (calls W) m (push G' (push F φ)) (rest 0 others c) w) (calls W (Primitive_value p at (value_and f no_value)) v)
                   (takes_more (push F φ) f hf (G 0) others closed_others [] tt a closed_a [] 0 (push G (push F φ)) v refl tt refl hv) (λ w q. (G, (λ i l. refl), q)),
             ),
           )),

@@ -1,5 +1,6 @@
 -- `def n = 3  def main (a: []i64): [n]i64 = a :> [n]i64` gives arrays of three rows alone: the number n is found as a size in main.
-use Rattle.std.specs.Prelude.{pos}
+use Rattle.sized_meaning.specs.There.{There, anywhere}
+use Rattle.std.specs.Prelude.{map, pos}
 use Rattle.std.proofs.Common.{◌≡◌, ℕ, zero, suc, ◌<◌, ◌≤◌, List, [], ◌∷◌, Bool, true, false, cond, nat_eq, Option, Some, None, refl, sym, ap, ◌∙◌, subst, arith, inl, inr, eqb-true}
 use Rattle.fut_scalar.specs.declared.place.Place.{Place}
 use Rattle.fut_scalar.specs.declared.place.BindId.{BindId}
@@ -22,9 +23,10 @@ use Rattle.sized_types.specs.Sizes.{Free, Const, Name, Own, Unknown, Slot, At, B
 use Rattle.sized_types.specs.Standing.{stands}
 use Rattle.fut_sizes.specs.Agreeing.{is_among, of_type, of_types}
 use Rattle.fut_sizes.specs.Operations.{operation}
+use Rattle.fut_sizes.specs.ProgramRules.{Program_sized}
 use Rattle.fut_sizes.specs.Rules.{Each_hole, Each_holes, Inside, Pattern_takes, Binder, Sized}
 use Rattle.fut_sizes.specs.Scopes.{i64_size}
-use Rattle.fut_sizes.specs.Scoping.{Context, is_name, nothing_known, with_scheme}
+use Rattle.fut_sizes.specs.Scoping.{Context, nothing_known, with_scheme}
 use Rattle.fut_sizes.specs.Suiting.{Each, Each_all, Data, All_data, suits_same}
 use Rattle.fut_sizes.specs.WrittenSizes.{has_sizes, with_sizes, coerced, coercion}
 use Rattle.sized_meaning.specs.Worth.{Worth, no_frames, push}
@@ -32,12 +34,13 @@ use Rattle.sized_meaning.specs.Shapes.{exactly, Has_shape, Has_datum}
 use Rattle.sized_meaning.specs.Finding.{One_shape_each, Well_formed}
 use Rattle.sized_meaning.specs.Fits.{Out_fits, Gives, word, Is_data}
 use Rattle.sized_meaning.specs.Law.{Sound, World, told}
-use Rattle.sized_meaning.specs.Programs.{Names_number, finding, Program_finds, Definitions_are, Plain_definitions, Data_arguments, Result_shaped, Gives_data}
+use Rattle.sized_meaning.specs.Programs.{as_defined, Definitions_are, Plain_definitions, Data_arguments, Result_shaped, Gives_data}
 use Rattle.sized_meaning.proofs.Ways.{gives_as}
 use Rattle.sized_meaning.proofs.Outcomes.{gives_exact, gives_then}
 use Rattle.sized_meaning.proofs.Finding.{exact_kinds}
 use Rattle.sized_meaning.proofs.Applications.{literal_type, literal_value, literal_word}
 use Rattle.sized_meaning.proofs.Given.{programs_give_their_shapes}
+use Rattle.sized_meaning.proofs.Quiet.{definitions_anywhere}
 
 abbrev here : Place
 here = record { file = 0; line = 1; column = 1 }
@@ -88,7 +91,7 @@ abbrev types : Sub
 types n = erased (sizes n)
 
 abbrev world : World
-world = record { integer_at = λ n. int.I64; sizing = record { size_at = sizes; home = home; fields = λ n. []; is_size = λ b. false; used = λ n. None }; tops = []; tight = false; budget = 0 }
+world = record { integer_at = λ n. int.I64; sizing = record { size_at = sizes; home = home; fields = λ n. []; is_size = λ b. false; used = λ n. None }; tops = []; tight = false; budget = 0; is_there = λ at. true }
 
 formed : (n : ℕ) → Well_formed (λ n. []) (sizes n)
 unfolding Well_formed
@@ -100,12 +103,9 @@ formed (suc (suc (suc (suc zero)))) = (tt, tt)
 formed (suc (suc (suc (suc (suc zero))))) = (tt, tt)
 formed (suc (suc (suc (suc (suc (suc k)))))) = (tt, tt)
 
--- what main knows of n, and that it is found
+-- what main knows of n: it is found
 abbrev known : Context
 known = with_scheme 0 i64_size (λ v. true) nothing_known
-
-abbrev finds_n : Context
-finds_n = finding (λ d. is_name 0 d) known
 
 abbrev inside : ℕ → Free
 inside zero = Own 4 0
@@ -158,7 +158,7 @@ module _ (N : Names) where
     named = refl;
   }
 
-  main_sized : Sized N types sizes home (Lambda (pattern_and (Bound_pattern (record { 0 = 2 })) no_pattern) coerces) 3 finds_n
+  main_sized : Sized N types sizes home (Lambda (pattern_and (Bound_pattern (record { 0 = 2 })) no_pattern) coerces) 3 known
   unfolding takes_array Each Each_all Each_hole Each_holes replaced all_replaced has some_has takes some_takes stands is_dim is_free operation coercion coerced has_sizes with_sizes Data All_data
   main_sized = (
     takes_array,
@@ -167,14 +167,6 @@ module _ (N : Names) where
     (refl, refl, ((inl (array (Own 4 0), refl, suits_same), ((λ i. let x = i.0 in let y = i.1 in omega (arith, x, y)), tt), tt), refl, (refl, tt))),
   )
 
-  only_number : (d : Free) → is_name 0 d ≡ true → Names_number sizes known (Lambda (pattern_and (Bound_pattern (record { 0 = 2 })) no_pattern) coerces) 3 d
-  unfolding some_names names_size name_size is_dim is_free
-  only_number (Name b) e = subst (λ c. Names_number sizes known (Lambda (pattern_and (Bound_pattern (record { 0 = 2 })) no_pattern) coerces) 3 (Name c)) (eqb-true 0 b e) (i64_size, refl, refl, refl)
-  only_number (Const c) e = let z : false ≡ true = e in cc
-  only_number (Own n i) e = let z : false ≡ true = e in cc
-  only_number (Unknown n i) e = let z : false ≡ true = e in cc
-  only_number (Slot i) e = let z : false ≡ true = e in cc
-
   one_name : (b lo hi c : ℕ) → lo ≤ home b → home b < hi → is_among (b ∷ []) c ≡ true → Inside N types sizes home lo hi (Name c)
   one_name b lo hi c l l' e = by_test (nat_eq c b) refl e
     where
@@ -182,12 +174,12 @@ module _ (N : Names) where
       by_test true q e = subst (λ k. (lo ≤ home k) × (home k < hi)) (sym (eqb-true c b q)) (l, l')
       by_test false q e = absurd (let z : false ≡ true = e in cc)
 
-  finds : Program_finds N types sizes home definitions
+  sized : Program_sized N types sizes home (map as_defined definitions)
   unfolding Each Each_all operation of_type of_types erased all_erased
-  finds = (
-    ((λ d. false), (λ d e. absurd (let z : false ≡ true = e in cc)), (tt, refl, tt)),
+  sized = (
+    (tt, refl, tt),
     record { type = refl; bound = λ c e. one_name 0 0 1 c (omega arith) (omega arith) e; away = tt },
-    (((λ d. is_name 0 d), only_number, main_sized), record { type = refl; bound = λ c e. one_name 1 2 3 c (omega arith) (omega arith) e; away = ((omega arith, tt), ((λ i. let x = i.0 in omega (arith, x)), tt)) }, tt),
+    (main_sized, record { type = refl; bound = λ c e. one_name 1 2 3 c (omega arith) (omega arith) e; away = ((omega arith, tt), ((λ i. let x = i.0 in omega (arith, x)), tt)) }, tt),
   )
 
   simple : Plain_definitions N types world definitions 0
@@ -211,14 +203,14 @@ module _ (N : Names) where
     three_value = Scalar_value (integer int.I64 (pos 3))
 
     -- the entry reaches n, which only a size names
-    n_is_three : Gives (λ (T : FlatTops). top T 0 ≡ Val three_value) (evaluated (flat_names (told world)) (plain false) 0 1 (flat_tops 0 definitions) [] [])
+    n_is_three : Gives (There anywhere) (λ (T : FlatTops). top T 0 ≡ Val three_value) (evaluated (flat_names (told world)) (plain false) 0 1 (flat_tops 0 definitions) [] [])
     unfolding flat_tops flat_names some_names names_size name_size is_dim is_free literal_type
     n_is_three = gives_then (λ x. x ≡ three_value) (λ T. top T 0 ≡ Val three_value) _ _ (literal_value N types (exactly τ) world sound (exact_kinds τ one) 3 None here 1 (base tt))
-        (λ x q. gives_then (λ w. Unit {0}) (λ T. top T 0 ≡ Val three_value) _ _ (λ o f y. anything o) (λ w u. gives_exact (λ T. top T 0 ≡ Val three_value) 0 (Val ((1, w) ∷ (0, x) ∷ [])) (ap Val q)))
+        (λ x q. gives_then (λ w. Unit {0}) (λ T. top T 0 ≡ Val three_value) _ _ (λ o f y. anything o) (λ w u. gives_exact _ (λ T. top T 0 ≡ Val three_value) 0 (Val ((1, w) ∷ (0, x) ∷ [])) (ap Val q)))
       where
-        anything : (o : Out FlatValue) → Out_fits (λ w. Unit {0}) o
+        anything : (o : Out FlatValue) → Out_fits (There anywhere) (λ w. Unit {0}) o
         anything (Val w) = tt
-        anything (Fail r) = tt
+        anything (Fail r) = λ e. refl
         anything Wrong = tt
 
     worth_three : (tops : FlatTops) (m : Worth) → Definitions_are world definitions (bind 1) tops m → m (Name 0) ≡ 3
@@ -232,6 +224,6 @@ module _ (N : Names) where
     three_rows m (Record_shape hs) e x = absurd x.2
     three_rows m Unmet_shape e x = absurd x.2
 
-    coerced_to_three : Gives (λ w. value_shape w ≡ Array_shape 3 (Scalar_shape (sort.Int int.I64))) (Flat_means (told world) (plain false) 0 definitions (bind 1) (v ∷ []))
-    coerced_to_three = gives_as _ (λ w. value_shape w ≡ Array_shape 3 (Scalar_shape (sort.Int int.I64))) _ (programs_give_their_shapes N types τ world definitions (bind 1) (v ∷ []) sound one finds simple (λ tops m are. arguments m) gives_data)
+    coerced_to_three : Gives (There anywhere) (λ w. value_shape w ≡ Array_shape 3 (Scalar_shape (sort.Int int.I64))) (Flat_means (told world) (plain false) 0 definitions (bind 1) (v ∷ []))
+    coerced_to_three = gives_as _ (λ w. value_shape w ≡ Array_shape 3 (Scalar_shape (sort.Int int.I64))) _ (programs_give_their_shapes N types τ world definitions (bind 1) (v ∷ []) sound one sized simple (definitions_anywhere definitions) (λ tops m are. arguments m) gives_data)
         (λ w x. three_rows x.1 (value_shape w) (worth_three x.0 x.1 x.2) x.3)

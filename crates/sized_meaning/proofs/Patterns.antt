@@ -1,4 +1,7 @@
 -- Patterns with parts: the names of each part are worth what it is, and keep values of their sized types.
+use Rattle.fut_scalar.specs.declared.report.Report.{Report}
+use Rattle.sized_meaning.proofs.Size_reports.{record_parts_fine}
+use Rattle.sized_meaning.specs.There.{There}
 use Rattle.std.proofs.Common.{◌≡◌, ◌⊎◌, ℕ, zero, suc, ◌+◌, ◌<◌, ◌≤◌, List, [], ◌∷◌, ◌++◌, Bool, true, false, ◌||◌, cond, nat_eq, Option, Some, None, refl, sym, ap, ◌∙◌, subst, arith, inl, inr, eqb-true, eq-eqb}
 use Rattle.fut_ast.specs.Sorts.{Text}
 use Rattle.fut_scalar.specs.declared.place.BindId.{BindId}
@@ -20,7 +23,7 @@ use Rattle.sized_types.specs.Standing.{stands, has_hole, stands_told, has_told}
 use Rattle.fut_sizes.specs.Agreeing.{left, is_among, names_one}
 use Rattle.fut_sizes.specs.WrittenSizes.{part, part_of}
 use Rattle.fut_sizes.specs.Scopes.{names, all_names}
-use Rattle.fut_sizes.specs.Scoping.{Context, with_entered, with_names, with_all_names}
+use Rattle.fut_sizes.specs.Scoping.{Context, with_entered, with_pattern, with_all_patterns}
 use Rattle.fut_sizes.specs.Suiting.{Each, Each_all, Scoped}
 use Rattle.fut_sizes.specs.Rules.{Inside, Away, part_fits, Pattern_takes, All_take, Fields_take}
 use Rattle.sized_meaning.specs.Worth.{Worth, free, no_frames}
@@ -331,10 +334,10 @@ or_last true b c e = refl
 or_last false true c e = refl
 or_last false false c e = e
 
-pub out_known : {A B : Type 0} (Q : B → Type 0) (o : Out A) (k : A → Out B) → ((a : A) → o ≡ Val a → Out_fits Q (k a)) → Out_fits Q (and_then o k)
-out_known Q (Val a) k go = go a refl
-out_known Q (Fail r) k go = tt
-out_known Q Wrong k go = tt
+pub out_known : (quiet : Report → Type 0) {A B : Type 0} (Q : B → Type 0) (o : Out A) (k : A → Out B) → Out_fits quiet (λ a. Unit {0}) o → ((a : A) → o ≡ Val a → Out_fits quiet Q (k a)) → Out_fits quiet Q (and_then o k)
+out_known quiet Q (Val a) k q go = go a refl
+out_known quiet Q (Fail r) k q go = q
+out_known quiet Q Wrong k q go = tt
 
 abbrev List_fit : (Size → FlatValue → Type 0) → Sizes → List FlatValue → Type 0
 List_fit P no_size [] = Unit {0}
@@ -344,7 +347,7 @@ List_fit P (size_and t ts) (v ∷ vs) = P t v × List_fit P ts vs
 
 module _ (N : Names) (types : Sub) (τ : Meant) (W : World) (S : Sound N types W.sizing) (one : One_kind_each τ) (at hi : ℕ) (m : Worth) where
   abbrev Of : Size → FlatValue → Type 0
-  Of t v = Fits N τ W.sizing (calls W) m no_frames t v
+  Of t v = Fits N τ W.sizing W.is_there (calls W) m no_frames t v
 
   abbrev Env_of : Context → FlatEnv → Type 0
   Env_of G env = Env_fits N types τ W at hi m G env
@@ -359,11 +362,11 @@ module _ (N : Names) (types : Sub) (τ : Meant) (W : World) (S : Sound N types W
     fresh = E.fresh;
     sizes_right = E.sizes_right;
     types_right = E.types_right;
-    finds = λ d e. E.finds d (or_last (stands t d) (stands_told t d) (G.finds d) e);
+    finds = λ d k e. E.finds d k (or_last (stands t d) (stands_told t d) (G.finds d) e);
     finds_types = λ v e. E.finds_types v (or_last (has_hole t v) (has_told t v) (G.finds_types v) e);
   }
 
-  tuple_fit : (ts : Sizes) (vs : FlatValues) → All_fit N τ W.sizing (calls W) m no_frames ts vs → List_fit Of ts (listed vs)
+  tuple_fit : (ts : Sizes) (vs : FlatValues) → All_fit N τ W.sizing W.is_there (calls W) m no_frames ts vs → List_fit Of ts (listed vs)
   unfolding All_fit
   tuple_fit no_size no_value h = tt
   tuple_fit no_size (value_and v vs) h = absurd h
@@ -375,13 +378,13 @@ module _ (N : Names) (types : Sub) (τ : Meant) (W : World) (S : Sound N types W
   tuple_parts_fit ts vs h = tuple_fit ts vs h
 
   -- a field of a record
-  field_at : (n i k : ℕ) (ts : Sizes) (f : Text) (u : Size) (gs : FlatFields) → place N.shapes (N.label f) (head.Record n) ≡ Some (k + i) → part (Some k) ts ≡ Some u → Named_fit N τ W.sizing (calls W) m no_frames n i ts gs → (v : FlatValue) × (field f gs ≡ Some v) × Of u v
+  field_at : (n i k : ℕ) (ts : Sizes) (f : Text) (u : Size) (gs : FlatFields) → place N.shapes (N.label f) (head.Record n) ≡ Some (k + i) → part (Some k) ts ≡ Some u → Named_fit N τ W.sizing W.is_there (calls W) m no_frames n i ts gs → (v : FlatValue) × (field f gs ≡ Some v) × Of u v
   unfolding Named_fit
   field_at n i k no_size f u gs p e h = none_no e
   field_at n i zero (size_and t ts) f u gs p e h = let c = h.0 f (p ∙ ap Some (let z : 0 + i ≡ i = omega arith in z)) in (c.0, c.1, subst (λ x. Of x c.0) (some_same e) c.2)
   field_at n i (suc k) (size_and t ts) f u gs p e h = field_at n (suc i) k ts f u gs (p ∙ ap Some (let z : suc k + i ≡ k + suc i = omega arith in z)) e h.1
 
-  placed_field : (o : Option ℕ) (n : ℕ) (ts : Sizes) (f : Text) (u : Size) (gs : FlatFields) → place N.shapes (N.label f) (head.Record n) ≡ o → part o ts ≡ Some u → Named_fit N τ W.sizing (calls W) m no_frames n 0 ts gs → (v : FlatValue) × (field f gs ≡ Some v) × Of u v
+  placed_field : (o : Option ℕ) (n : ℕ) (ts : Sizes) (f : Text) (u : Size) (gs : FlatFields) → place N.shapes (N.label f) (head.Record n) ≡ o → part o ts ≡ Some u → Named_fit N τ W.sizing W.is_there (calls W) m no_frames n 0 ts gs → (v : FlatValue) × (field f gs ≡ Some v) × Of u v
   placed_field None n ts f u gs p e h = none_no e
   placed_field (Some k) n ts f u gs p e h = field_at n 0 k ts f u gs (p ∙ ap Some (let z : k ≡ k + 0 = omega arith in z)) e h
 
@@ -393,7 +396,7 @@ module _ (N : Names) (types : Sub) (τ : Meant) (W : World) (S : Sound N types W
 
   module _ (what : Free → Free) (stays : (d : Free) → free m (what d) ≡ free m d) where
     at_node_fits : (q : ℕ) (t : Size) (v : FlatValue) → renamed what (s N types τ W q) ≡ t → Of t v → Of (s N types τ W q) v
-    at_node_fits q t v e h = (fits_renamed N τ W.sizing (calls W) m m what stays (W.sizing.size_at q) no_frames v).0 (subst (λ x. Of x v) (sym e) h)
+    at_node_fits q t v e h = (fits_renamed N τ W.sizing W.is_there (calls W) m m what stays (W.sizing.size_at q) no_frames v).0 (subst (λ x. Of x v) (sym e) h)
 
     -- the parts of a record that a pattern names
     record_out : (fs : List Text) (ps : Patterns Ref BindId) (q : ℕ) (t : Size) (gs : FlatFields) → Fields_take N types W.sizing.size_at W.sizing.home what fs ps q t → Of t (Record_value gs) → (vs : List FlatValue) → record_parts fs gs ≡ Val vs
@@ -414,40 +417,39 @@ module _ (N : Names) (types : Sub) (τ : Meant) (W : World) (S : Sound N types W
       unfolding bound all_bound Pattern_takes All_take found
 
       -- its names have values of their sized types
-      pub enters : (p : FlatPattern) (q : ℕ) (t : Size) (v : FlatValue) (G G' : Context) (env : FlatEnv) → ((e : FlatEnv) → Env_of (with_entered (W.sizing.size_at q) G) e → Env_of G' e)
-          → Name_home W.sizing p q → Simple W.sizing p q → q + pattern_numbers p ≤ at → Nodes_away N types W at hi p q → Pattern_takes N types W.sizing.size_at W.sizing.home what p q t → Of t v → Names_worth m p v → Env_of G env
-          → Out_fits (λ x. Env_of (with_names W.sizing.size_at p q G') x) (bound q p v env)
-      enters (Bound_pattern b) q t v G G' env keep at_home simple le away takes h worth E =
+      pub enters : (p : FlatPattern) (q : ℕ) (t : Size) (v : FlatValue) (G : Context) (env : FlatEnv) → Name_home W.sizing p q → Simple W.sizing p q → q + pattern_numbers p ≤ at → Nodes_away N types W at hi p q → Pattern_takes N types W.sizing.size_at W.sizing.home what p q t → Of t v → Names_worth m p v → Env_of G env
+          → Out_fits (There W.is_there) (λ x. Env_of (with_pattern W.sizing.size_at p q G) x) (bound q p v env)
+      enters (Bound_pattern b) q t v G env at_home simple le away takes h worth E =
           let fits = at_node_fits q t v takes h in
           let inside : Inside N types W.sizing.size_at W.sizing.home q (q + 1) (Name b.0) = (omega (arith, at_home), omega (arith, at_home)) in
           let outside = outside_narrower N types τ W (q + 1) hi at hi le (omega arith) (Name b.0) (apart N types τ W q (q + 1) hi (Name b.0) inside) in
-          env_bind N types τ W at hi m G' (entered q v env) b (W.sizing.size_at q) v
-          (keep (entered q v env) (env_entered N types τ W S one at hi m q G env v E fits away
-          (λ c z e k w. let same : c ≡ b.0 = simple c e k in (word_is v z w ∙ worth ∙ ap (λ k. m (Name k)) (sym same), subst (λ k. Out_beyond N types τ W at hi (Name k)) (sym same) outside))))
+          env_bind N types τ W at hi m (with_entered (W.sizing.size_at q) G) (entered q v env) b (W.sizing.size_at q) v
+          (env_entered N types τ W S one at hi m q G env v E fits away
+          (λ c z e k w. let same : c ≡ b.0 = simple c e k in (word_is v z w ∙ worth ∙ ap (λ k. m (Name k)) (sym same), subst (λ k. Out_beyond N types τ W at hi (Name k)) (sym same) outside)))
           fits away outside worth
           (λ e. name_found N types τ W S one at hi m q b.0 v _ fits at_home e)
-      enters Wild_pattern q t v G G' env keep at_home simple le away takes h worth E =
+      enters Wild_pattern q t v G env at_home simple le away takes h worth E =
           let fits = at_node_fits q t v takes h in
-          keep (entered q v env) (env_entered N types τ W S one at hi m q G env v E fits away (λ c z e k w. absurd (simple c e k)))
-      enters (Typed_pattern p e) q t v G G' env keep at_home simple le away takes h worth E = enters p q t v G G' env keep at_home simple le away takes h worth E
-      enters (Tuple_pattern ps) q t (Tuple_value vs) G G' env keep at_home simple le away takes h worth E =
-          all_enter ps (1 + q) takes.1 (listed vs) G' (entered q (Tuple_value vs) env) simple (omega (arith, le)) away.1 takes.3 (tuple_parts_fit takes.1 vs (subst (λ x. Of x (Tuple_value vs)) takes.2 h)) worth
-          (keep (entered q (Tuple_value vs) env) (env_entered N types τ W S one at hi m q G env (Tuple_value vs) E (at_node_fits q t (Tuple_value vs) takes.0 h) away.0 (λ c z e k w. none_no w)))
-      enters (Tuple_pattern ps) q t v G G' env keep at_home simple le away takes h worth E = tt
-      enters (Record_pattern fs ps) q t (Record_value gs) G G' env keep at_home simple le away takes h worth E =
-          out_known (λ x. Env_of (with_all_names W.sizing.size_at ps (1 + q) G') x) (record_parts fs gs) (λ vs. all_bound (1 + q) ps vs (entered q (Record_value gs) env))
+          env_entered N types τ W S one at hi m q G env v E fits away (λ c z e k w. absurd (simple c e k))
+      enters (Typed_pattern p e) q t v G env at_home simple le away takes h worth E = enters p q t v G env at_home simple le away takes h worth E
+      enters (Tuple_pattern ps) q t (Tuple_value vs) G env at_home simple le away takes h worth E =
+          all_enter ps (1 + q) takes.1 (listed vs) (with_entered (W.sizing.size_at q) G) (entered q (Tuple_value vs) env) simple (omega (arith, le)) away.1 takes.3 (tuple_parts_fit takes.1 vs (subst (λ x. Of x (Tuple_value vs)) takes.2 h)) worth
+          (env_entered N types τ W S one at hi m q G env (Tuple_value vs) E (at_node_fits q t (Tuple_value vs) takes.0 h) away.0 (λ c z e k w. none_no w))
+      enters (Tuple_pattern ps) q t v G env at_home simple le away takes h worth E = tt
+      enters (Record_pattern fs ps) q t (Record_value gs) G env at_home simple le away takes h worth E =
+          out_known _ (λ x. Env_of (with_all_patterns W.sizing.size_at ps (1 + q) (with_entered (W.sizing.size_at q) G)) x) (record_parts fs gs) (λ vs. all_bound (1 + q) ps vs (entered q (Record_value gs) env)) (record_parts_fine W.is_there fs gs)
           (λ vs e. let r = record_out fs ps (1 + q) t gs takes.1 h vs e in
-          all_enter ps (1 + q) r.0 vs G' (entered q (Record_value gs) env) simple (omega (arith, le)) away.1 r.1 r.2 (subst (λ o. All_worth m ps (or_nothing o)) e worth)
-          (keep (entered q (Record_value gs) env) (env_entered N types τ W S one at hi m q G env (Record_value gs) E (at_node_fits q t (Record_value gs) takes.0 h) away.0 (λ c z e k w. none_no w))))
-      enters (Record_pattern fs ps) q t v G G' env keep at_home simple le away takes h worth E = tt
+          all_enter ps (1 + q) r.0 vs (with_entered (W.sizing.size_at q) G) (entered q (Record_value gs) env) simple (omega (arith, le)) away.1 r.1 r.2 (subst (λ o. All_worth m ps (or_nothing o)) e worth)
+          (env_entered N types τ W S one at hi m q G env (Record_value gs) E (at_node_fits q t (Record_value gs) takes.0 h) away.0 (λ c z e k w. none_no w)))
+      enters (Record_pattern fs ps) q t v G env at_home simple le away takes h worth E = tt
 
       all_enter : (ps : Patterns Ref BindId) (q : ℕ) (ts : Sizes) (vs : List FlatValue) (G : Context) (env : FlatEnv) → All_parts W.sizing ps q → q + all_pattern_numbers ps ≤ at → All_nodes_away N types W at hi ps q → All_take N types W.sizing.size_at W.sizing.home what ps q ts → List_fit Of ts vs → All_worth m ps vs → Env_of G env
-          → Out_fits (λ x. Env_of (with_all_names W.sizing.size_at ps q G) x) (all_bound q ps vs env)
+          → Out_fits (There W.is_there) (λ x. Env_of (with_all_patterns W.sizing.size_at ps q G) x) (all_bound q ps vs env)
       all_enter no_pattern q ts [] G env simple le away takes h worth E = E
       all_enter no_pattern q ts (v ∷ vs) G env simple le away takes h worth E = tt
       all_enter (pattern_and p ps) q ts [] G env simple le away takes h worth E = tt
       all_enter (pattern_and p ps) q no_size (v ∷ vs) G env simple le away takes h worth E = absurd takes
       all_enter (pattern_and p ps) q (size_and t ts) (v ∷ vs) G env simple le away takes h worth E =
-          out_then (λ x. Env_of (with_names W.sizing.size_at p q G) x) (λ x. Env_of (with_all_names W.sizing.size_at ps (q + pattern_numbers p) (with_names W.sizing.size_at p q G)) x) (bound q p v env) (λ e. all_bound (q + pattern_numbers p) ps vs e)
-          (enters p q t v G G env (λ e E'. keeps_less (W.sizing.size_at q) G e E') simple.0 simple.1 (omega (arith, le)) away.0 takes.0 h.0 worth.0 E)
-          (λ e E'. all_enter ps (q + pattern_numbers p) ts vs (with_names W.sizing.size_at p q G) e simple.2 (omega (arith, le)) away.1 takes.1 h.1 worth.1 E')
+          out_then _ (λ x. Env_of (with_pattern W.sizing.size_at p q G) x) (λ x. Env_of (with_all_patterns W.sizing.size_at ps (q + pattern_numbers p) (with_pattern W.sizing.size_at p q G)) x) (bound q p v env) (λ e. all_bound (q + pattern_numbers p) ps vs e)
+          (enters p q t v G env simple.0 simple.1 (omega (arith, le)) away.0 takes.0 h.0 worth.0 E)
+          (λ e E'. all_enter ps (q + pattern_numbers p) ts vs (with_pattern W.sizing.size_at p q G) e simple.2 (omega (arith, le)) away.1 takes.1 h.1 worth.1 E')

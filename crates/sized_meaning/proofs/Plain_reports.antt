@@ -1,4 +1,6 @@
 -- On data of one shape primitives and operations report no size by themselves, where what does not fit is reported.
+use Rattle.sized_meaning.specs.There.{There}
+use Rattle.sized_meaning.proofs.Outcomes.{gives_exact, gives_then}
 use Rattle.std.proofs.Common.{◌≡◌, ℕ, List, true, false, ◌∙◌, subst}
 use Rattle.fut_value.specs.Data.{Datum}
 use Rattle.fut_meaning.specs.Datums.{as_value}
@@ -10,7 +12,7 @@ use Rattle.sized_meaning.specs.Reports.{Value_there, PrimitivesReportNoSizes, Op
 use Rattle.sized_meaning.proofs.Misfits.{no_operation_misfits}
 use Rattle.sized_meaning.proofs.Primitive_misfits.{no_primitive_misfits}
 use Rattle.sized_meaning.proofs.Reporting.{Fine, Job_there, made_fine, job_there}
-use Rattle.sized_meaning.proofs.Size_reports.{Blames, blames_exact, blames_then, after, blames_job, data_there}
+use Rattle.sized_meaning.proofs.Size_reports.{Blames, after, blames_job, data_there}
 
 pub primitives_report_no_sizes : PrimitivesReportNoSizes
 unfolding unrestricted
@@ -23,7 +25,7 @@ primitives_report_no_sizes size shape W row p at ds f is_there t x g quiet r wor
 
     goes_wrong : Blames is_there (Value_there is_there) (primitive_gives W true row p at ds f)
     goes_wrong = after is_there (Job_there is_there) (Value_there is_there) (job true row p at ds) _ (job_there is_there row p at ds t)
-        (λ j h. blames_then is_there (λ a. Unit {0}) (Value_there is_there) _ _ (blames_job is_there W.tight _ _ (applies W p f) outcome j h) (λ d u. blames_exact is_there (Value_there is_there) 0 (Val (as_value d)) (data_there is_there d)))
+        (λ j h. gives_then (λ a. Unit {0}) (Value_there is_there) _ _ (blames_job is_there W.tight _ _ (applies W p f) outcome j h) (λ d u. gives_exact (There is_there) (Value_there is_there) 0 (Val (as_value d)) (data_there is_there d)))
 
 pub operations_report_no_sizes : OperationsReportNoSizes
 operations_report_no_sizes row m at ds r h e k = absurd (let z : false ≡ true = subst (λ o. Fine (λ q. false) o) (no_operation_misfits row m at ds h ∙ e) (made_fine (λ q. false) row m at ds) k in cc)

@@ -1,5 +1,6 @@
 -- Primitives on data of the shapes that they take do the same whether what does not fit is reported or goes wrong.
-use Rattle.std.specs.Prelude.{ℤ, pos, negsuc, ◌&&◌, ◌||◌, map, ◌++◌}
+use Rattle.sized_meaning.specs.There.{There, anywhere}
+use Rattle.std.specs.Prelude.{ℤ, pos, negsuc, ◌&&◌, map, ◌++◌}
 use Rattle.std.proofs.Common.{◌≡◌, ℕ, zero, suc, ◌+◌, List, [], ◌∷◌, length, Bool, true, false, cond, nat_eq, refl, sym, ap, ◌∙◌, subst, eq-eqb, arith}
 use Rattle.fut_scalar.specs.declared.place.Place.{Place}
 use Rattle.fut_flat.specs.declared.prim.Primitive.{Primitive}
@@ -9,7 +10,7 @@ use Rattle.fut_primitives.specs.declared.written.Letter.TheVariants as letter
 use Rattle.fut_primitives.specs.declared.written.Size.{Size as Length}
 use Rattle.fut_primitives.specs.declared.written.Size.TheVariants as length_of
 use Rattle.fut_primitives.specs.Table.{written, own_of, from_of}
-use Rattle.fut_value.specs.Data.{Shape, Scalar_shape, Tuple_shape, Record_shape, Array_shape, Unmet_shape, Datum, Scalar_datum, Tuple_datum, Record_datum, Array_datum, datums, listed, shape_of, array_words, same_sizes}
+use Rattle.fut_value.specs.Data.{Shape, Scalar_shape, Tuple_shape, Record_shape, Array_shape, Unmet_shape, Datum, Scalar_datum, Tuple_datum, Record_datum, Array_datum, datums, listed, shape_of, array_words}
 use Rattle.fut_meaning.specs.Arrays.{array, array_of, rows_of, each_out, exact_of, Rows, Counted, fresh, shared, all_fresh, all_like}
 use Rattle.fut_meaning.specs.Datums.{as_value}
 use Rattle.fut_meaning.specs.Flats.{FlatValue}
@@ -22,7 +23,7 @@ use Rattle.sized_meaning.specs.Fits.{Gives}
 use Rattle.sized_meaning.specs.Misfits.{Of_shape, Of_shapes, All_of_shape, data_taken, Function_fits, Same_outcomes, applies, NoPrimitiveMisfits}
 use Rattle.sized_meaning.proofs.Datas.{the_value}
 use Rattle.sized_meaning.proofs.Mapping.{gives_each}
-use Rattle.sized_meaning.proofs.Misfits.{both_hold, same_self, same_as, fits_here, like_all, array_same, whole_rows}
+use Rattle.sized_meaning.proofs.Misfits.{both_hold, same_self, fits_here, like_all, array_same, whole_rows, shown_same}
 use Rattle.sized_meaning.proofs.Reducing.{gives_all_of, gives_reduced, every_prefix}
 use Rattle.sized_meaning.proofs.Scattering.{every_place, every_writes}
 
@@ -37,14 +38,14 @@ turned m k s o f = ((s o f).1, (s o f).0)
 and_same : {A : Type 0} (m k l : Rel A) → Same_outcomes m k → Same_outcomes k l → Same_outcomes m l
 and_same m k l s t o f = ((λ x. (t o f).0 ((s o f).0 x)), (λ x. (s o f).1 ((t o f).1 x)))
 
-module _ {A B : Type 0} (P : A → Type 0) (m : Rel A) (k l : A → Rel B) (h : Gives P m) (go : (a : A) → P a → (o : Out B) (f : ℕ) → k a o f → l a o f) where
+module _ {A B : Type 0} (P : A → Type 0) (m : Rel A) (k l : A → Rel B) (h : Gives (There anywhere) P m) (go : (a : A) → P a → (o : Out B) (f : ℕ) → k a o f → l a o f) where
   goes_over : (o : Out B) (f : ℕ) → Then m k o f → Then m l o f
   goes_over _ _ (goes_on {a} {o} {f} {g} x y) = goes_on x (go a (h (Val a) f x) o g y)
   goes_over _ _ (stops {r} {f} x) = stops x
   goes_over _ _ (sticks {f} x) = sticks x
 
 -- behind what has a property
-same_behind : {A B : Type 0} (P : A → Type 0) (m : Rel A) (k l : A → Rel B) → Gives P m → ((a : A) → P a → Same_outcomes (k a) (l a)) → Same_outcomes (Then m k) (Then m l)
+same_behind : {A B : Type 0} (P : A → Type 0) (m : Rel A) (k l : A → Rel B) → Gives (There anywhere) P m → ((a : A) → P a → Same_outcomes (k a) (l a)) → Same_outcomes (Then m k) (Then m l)
 same_behind P m k l h go o f = ((λ x. goes_over P m k l h (λ a p o f y. (go a p o f).0 y) o f x), (λ x. goes_over P m l k h (λ a p o f y. (go a p o f).1 y) o f x))
 
 -- in front of what is done then
@@ -172,13 +173,13 @@ module _ (tight : Bool) (Asked : Bool → Datum → List Datum → Type 0) (Writ
   results_same row h at ds e = ap (λ o. all_fresh o) (array_same at row h ds (all_shapes h ds e))
 
   -- the function on each of these lists
-  same_each : (hs : List Shape) (h : Shape) (lists : List (List Datum)) (k l : List Datum → Out Counted) → Lists_of hs lists → ((ds : List Datum) → Of_shapes hs ds → Gives (Of_shape h) (f ds)) → ((ds : List Datum) → Every (Of_shape h) ds → k ds ≡ l ds) → Same_outcomes (Means (Apply_each lists k)) (Means (Apply_each lists l))
+  same_each : (hs : List Shape) (h : Shape) (lists : List (List Datum)) (k l : List Datum → Out Counted) → Lists_of hs lists → ((ds : List Datum) → Of_shapes hs ds → Gives (There anywhere) (Of_shape h) (f ds)) → ((ds : List Datum) → Every (Of_shape h) ds → k ds ≡ l ds) → Same_outcomes (Means (Apply_each lists k)) (Means (Apply_each lists l))
   same_each hs h lists k l e go same = same_behind (λ ys. Every (Of_shape h) ys × (length ys ≡ length lists)) (each_of f lists) (finished k) (finished l) (gives_each (Of_shapes hs) (Of_shape h) f go lists e) (λ ys q. same_finished k l ys (same ys q.0))
 
   mapped_is : (b : Bool) (row : Shape) (at : Place) (d : Datum) (ds : List Datum) (r : Rows) (lists : List (List Datum)) → rows_of d ≡ Val r → columns b at r ds ≡ Val lists → mapped b row at (d ∷ ds) ≡ Val (Apply_each lists (array_of_results b row at))
   mapped_is b row at d ds r lists e q = on_array d r (λ r. and_then (columns b at r ds) (λ rows. Val (Apply_each rows (array_of_results b row at)))) e ∙ ap (λ o. and_then o (λ rows. Val (Apply_each rows (array_of_results b row at)))) q
 
-  mapped_same : (n : ℕ) (h : Shape) (hs : List Shape) (g row : Shape) (at : Place) (ds : List Datum) → Of_shapes (arrays n (h ∷ hs)) ds → ((es : List Datum) → Of_shapes (h ∷ hs) es → Gives (Of_shape g) (f es)) → Same_outcomes (Does (mapped true row at ds)) (Does (mapped false row at ds))
+  mapped_same : (n : ℕ) (h : Shape) (hs : List Shape) (g row : Shape) (at : Place) (ds : List Datum) → Of_shapes (arrays n (h ∷ hs)) ds → ((es : List Datum) → Of_shapes (h ∷ hs) es → Gives (There anywhere) (Of_shape g) (f es)) → Same_outcomes (Does (mapped true row at ds)) (Does (mapped false row at ds))
   mapped_same n h hs g row at [] x go = absurd x
   mapped_same n h hs g row at (d ∷ ds) x go =
       let p = array_parts n h d x.0 in
@@ -218,7 +219,7 @@ module _ (tight : Bool) (Asked : Bool → Datum → List Datum → Type 0) (Writ
   neutral_fits true r ne o e = ap (λ c. cond c o Wrong) e
 
   abbrev Operates : Shape → Type 0
-  Operates h = (es : List Datum) → Of_shapes (h ∷ h ∷ []) es → Gives (Of_shape h) (f es)
+  Operates h = (es : List Datum) → Of_shapes (h ∷ h ∷ []) es → Gives (There anywhere) (Of_shape h) (f es)
 
   same_reduce : (any : Bool) (h : Shape) (ne : Datum) (lists : List (List Datum)) (k l : List Datum → Out Counted) → Of_shape h ne → Operates h → Every (Every (Of_shape h)) lists → ((ds : List Datum) → Every (Of_shape h) ds → k ds ≡ l ds) → Same_outcomes (Means (Reduce_each any ne lists k)) (Means (Reduce_each any ne lists l))
   same_reduce any h ne lists k l n go e same =
@@ -252,16 +253,9 @@ module _ (tight : Bool) (Asked : Bool → Datum → List Datum → Type 0) (Writ
 
   -- ---- rows that are written at places
 
-  or_last : (x y : Bool) → y ≡ true → x || y ≡ true
-  or_last true y e = refl
-  or_last false y e = e
-
-  shown : (r s : Rows) → r.0 ≡ s.0 → shown_to_agree r s ≡ true
-  shown r s e = or_last (nat_eq (size_of r) 0) _ (or_last (nat_eq (size_of s) 0) (same_sizes r.0 s.0) (same_as r.0 s.0 e))
-
   rows_fit : (b : Bool) (at : Place) (r s : Rows) (o : Out Job) → r.0 ≡ s.0 → fitting_rows b at r s o ≡ o
-  rows_fit false at r s o e = fits_here false (shown_to_agree r s) at o (shown r s e)
-  rows_fit true at r s o e = fits_here true (shown_to_agree r s && rows_agree r.0 s.0) at o (both_hold (shown_to_agree r s) (rows_agree r.0 s.0) (shown r s e) (agree_as r.0 s.0 e))
+  rows_fit false at r s o e = fits_here false (shown_to_agree r s) at o (shown_same r s e)
+  rows_fit true at r s o e = fits_here true (shown_to_agree r s && rows_agree r.0 s.0) at o (both_hold (shown_to_agree r s) (rows_agree r.0 s.0) (shown_same r s e) (agree_as r.0 s.0 e))
 
   written_is : (b : Bool) (at : Place) (n : ℕ) (g h : Shape) (r : Rows) (is vs : Datum) (k : List (ℕ × Datum) → Out Job) → r.0 ≡ h → (i : Array_parts n g is) → (v : Array_parts n h vs) → written_rows b at r is vs k ≡ and_then (each_out exact_of i.rows) (λ zs. k (writes (size_of r) zs v.rows))
   written_is b at n g h r is vs k e i v =
@@ -321,7 +315,7 @@ module _ (tight : Bool) (Asked : Bool → Datum → List Datum → Type 0) (Writ
   indices_same : (row h : Shape) (at : Place) (k : ℕ) (ds : List Datum) → Every (Of_shape h) ds → array_of_indices true row at k ds ≡ array_of_indices false row at k ds
   indices_same row h at k ds e = ap (λ o. and_then o (λ e. Val (array_words (shape_of e) + k, e))) (array_same at row h ds (all_shapes h ds e))
 
-  tabulated_same : (h row : Shape) (at : Place) (o : Out ℤ) → ((es : List Datum) → Of_shapes (i64_shape ∷ []) es → Gives (Of_shape h) (f es))
+  tabulated_same : (h row : Shape) (at : Place) (o : Out ℤ) → ((es : List Datum) → Of_shapes (i64_shape ∷ []) es → Gives (There anywhere) (Of_shape h) (f es))
       → Same_outcomes (Does (and_then o (λ z. sized at z (λ k. Val (Apply_each (alone (numbers_from k 0)) (array_of_indices true row at k)))))) (Does (and_then o (λ z. sized at z (λ k. Val (Apply_each (alone (numbers_from k 0)) (array_of_indices false row at k))))))
   tabulated_same h row at (Val (pos k)) go =
       same_jobs (Apply_each (alone (numbers_from k 0)) (array_of_indices true row at k)) (Apply_each (alone (numbers_from k 0)) (array_of_indices false row at k))

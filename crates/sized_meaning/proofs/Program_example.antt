@@ -1,4 +1,10 @@
 -- A program whose one definition is `iota` gives an array of five rows for 5.
+use Rattle.fut_scalar.specs.declared.report.Report.{Report}
+use Rattle.fut_scalar.specs.declared.report.FailKind.TheVariants as kind
+use Rattle.fut_meaning.specs.Outcomes.{Fail}
+use Rattle.std.proofs.Common.{ℕ}
+use Rattle.sized_meaning.specs.There.{Term_there}
+use Rattle.sized_meaning.specs.There.{There}
 use Rattle.std.proofs.Common.{◌≡◌, [], ◌∷◌, true, false, None, refl, ap, ◌∙◌, arith, inl}
 use Rattle.fut_scalar.specs.declared.place.Place.{Place}
 use Rattle.fut_scalar.specs.declared.scalar.IntType.TheVariants as int
@@ -27,10 +33,9 @@ use Rattle.sized_meaning.specs.Shapes.{exactly, Has_shape, Has_datum}
 use Rattle.sized_meaning.specs.Finding.{One_shape_each, Well_formed}
 use Rattle.sized_meaning.specs.Fits.{Gives, word}
 use Rattle.sized_meaning.specs.Law.{Sound, World, told}
-use Rattle.sized_meaning.specs.Programs.{as_defined, Program_finds, Plain_definitions, Data_arguments, Result_shaped, Gives_data}
+use Rattle.sized_meaning.specs.Programs.{as_defined, Plain_definitions, Data_arguments, Result_shaped, Gives_data}
 use Rattle.sized_meaning.proofs.Ways.{gives_as}
-use Rattle.sized_meaning.proofs.Programs.{sized_programs_find}
-use Rattle.sized_meaning.proofs.Given.{programs_give_their_shapes}
+use Rattle.sized_meaning.proofs.Given.{programs_give_their_shapes, sized_programs_report_no_other_sizes}
 
 here : Place
 here = record { file = 0; line = 1; column = 1 }
@@ -49,7 +54,7 @@ abbrev types : Sub
 types n = erased (Fun 0 i64_size (Level (Bound 0 0) i64_size))
 
 abbrev world : World
-world = record { integer_at = λ n. int.I64; sizing = record { size_at = λ n. Fun 0 i64_size (Level (Bound 0 0) i64_size); home = λ b. 0; fields = λ n. []; is_size = λ b. false; used = λ n. None }; tops = []; tight = false; budget = 0 }
+world = record { integer_at = λ n. int.I64; sizing = record { size_at = λ n. Fun 0 i64_size (Level (Bound 0 0) i64_size); home = λ b. 0; fields = λ n. []; is_size = λ b. false; used = λ n. None }; tops = []; tight = false; budget = 0; is_there = λ at. false }
 
 abbrev five : FlatValue
 five = Scalar_value (scalar.Int int.I64 5)
@@ -69,9 +74,6 @@ module _ (N : Names) (named : AreNames N) (τ : Variable → Shape) (one : One_s
   sized : Program_sized N types world.sizing.size_at world.sizing.home (as_defined definition ∷ [])
   unfolding Each Each_all
   sized = (used, record { type = refl; bound = λ c e. (omega arith, omega arith); away = (tt, (omega arith, tt)) }, tt)
-
-  finds : Program_finds N types world.sizing.size_at world.sizing.home (definition ∷ [])
-  finds = sized_programs_find N types world.sizing.size_at world.sizing.home (definition ∷ []) sized
 
   simple : Plain_definitions N types world (definition ∷ []) 0
   unfolding Each_hole Each_holes
@@ -93,5 +95,11 @@ module _ (N : Names) (named : AreNames N) (τ : Variable → Shape) (one : One_s
   five_rows m (Record_shape hs) x = absurd x.2
   five_rows m Unmet_shape x = absurd x.2
 
-  iota_gives_five_rows : Gives (λ w. value_shape w ≡ Array_shape 5 (Scalar_shape (sort.Int int.I64))) (Flat_means (told world) (plain false) 0 (definition ∷ []) main (five ∷ []))
-  iota_gives_five_rows = gives_as _ (λ w. value_shape w ≡ Array_shape 5 (Scalar_shape (sort.Int int.I64))) _ (programs_give_their_shapes N types τ world (definition ∷ []) main (five ∷ []) sound one finds simple (λ tops m are. arguments m) gives_data) (λ w x. five_rows x.1 (value_shape w) x.3)
+  iota_gives_five_rows : Gives (There (λ at. false)) (λ w. value_shape w ≡ Array_shape 5 (Scalar_shape (sort.Int int.I64))) (Flat_means (told world) (plain false) 0 (definition ∷ []) main (five ∷ []))
+  unfolding Term_there
+  iota_gives_five_rows = gives_as _ (λ w. value_shape w ≡ Array_shape 5 (Scalar_shape (sort.Int int.I64))) _ (programs_give_their_shapes N types τ world (definition ∷ []) main (five ∷ []) sound one sized simple (tt, tt) (λ tops m are. arguments m) gives_data) (λ w x. five_rows x.1 (value_shape w) x.3)
+
+  -- nor does it report a size: no `:>` and no `unflatten` stands in it
+  iota_reports_no_size : (r : Report) (words : ℕ) → Flat_means (told world) (plain false) 0 (definition ∷ []) main (five ∷ []) (Fail r) words → r.kind ≡ kind.Size → ⊥
+  unfolding Term_there
+  iota_reports_no_size r words x e = let z : false ≡ true = sized_programs_report_no_other_sizes N types τ world (definition ∷ []) main (five ∷ []) sound one sized simple (tt, tt) (λ tops m are. arguments m) r words x e in cc

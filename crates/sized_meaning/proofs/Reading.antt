@@ -1,4 +1,5 @@
 -- How the shapes and values of a sized type depend on what its sizes are worth.
+use Rattle.fut_scalar.specs.declared.place.Place.{Place}
 use Rattle.std.proofs.Common.{◌≡◌, ℕ, zero, suc, ◌+◌, ◌<◌, ◌≤◌, List, [], ◌∷◌, length, Bool, true, false, cond, nat_eq, refl, sym, ap, ◌∙◌, subst, arith, eqb-true}
 use Rattle.std.proofs.lemmas.Bool.{eqb-false}
 use Rattle.fut_typing.specs.Names.{Names}
@@ -149,7 +150,7 @@ module _ (N : Names) (τ : Meant) (m m' : Worth) (g : ℕ → Dim → Dim) (ok :
       (λ x F h hp. (told_replaced r (suc j) (push F φ) (push F φ') e.1 (pushed j φ φ' F q) (λ hs. tell (h ∷ hs))).1 (x F h ((shape_replaced p (suc j) (push F φ) (push F φ') e.0 (pushed j φ φ' F q) h).0 hp))),
     )
 
-  module _ (Z : Sizing) (calls : FlatValue → FlatValue → Rel FlatValue) (pushed : Goes_in S) (owns : Keeps_own g S) where
+  module _ (Z : Sizing) (is_there : Place → Bool) (calls : FlatValue → FlatValue → Rel FlatValue) (pushed : Goes_in S) (owns : Keeps_own g S) where
     tells_out : (k : ℕ) (p r : Size) (j : ℕ) (φ φ' : Frames) → Each ok (suc j) p → Each ok (suc j) r → S j φ φ' → (f : FlatValue) → Tells_right N τ Z m φ k (replaced g (suc j) p) (replaced g (suc j) r) f → Tells_right N τ Z m' φ' k p r f
     tells_out k p r j φ φ' ep er q f t = (
       t.0,
@@ -171,7 +172,7 @@ module _ (N : Names) (τ : Meant) (m m' : Worth) (g : ℕ → Dim → Dim) (ok :
     mutual
       unfolding Fits All_fit Named_fit replaced all_replaced Each Each_all
 
-      pub fits_replaced : (t : Size) (j : ℕ) (φ φ' : Frames) → Each ok j t → S j φ φ' → (v : FlatValue) → Ways (Fits N τ Z calls m φ (replaced g j t) v) (Fits N τ Z calls m' φ' t v)
+      pub fits_replaced : (t : Size) (j : ℕ) (φ φ' : Frames) → Each ok j t → S j φ φ' → (v : FlatValue) → Ways (Fits N τ Z is_there calls m φ (replaced g j t) v) (Fits N τ Z is_there calls m' φ' t v)
       fits_replaced (Hole a) j φ φ' e q v = data_as _ _ (datum_replaced (Hole a) j φ φ' e q) v
       fits_replaced (Open n a u) j φ φ' e q v = same_ways
       fits_replaced (Level d t) j φ φ' e q v = data_as _ _ (datum_replaced (Level d t) j φ φ' e q) v
@@ -181,11 +182,11 @@ module _ (N : Names) (τ : Meant) (m m' : Worth) (g : ℕ → Dim → Dim) (ok :
         (λ h. (tells_in k p r j φ φ' e.0 e.1 q v h.0, (λ F u w a. gives_as _ _ _ (h.1 F u w ((fits_replaced p (suc j) (push F φ) (push F φ') e.0 (pushed j φ φ' F q) u).0 a)) (λ x b. (b.0, b.1, (fits_replaced r (suc j) (push b.0 φ) (push b.0 φ') e.1 (pushed j φ φ' b.0 q) x).1 b.2))))),
       )
 
-      all_fit_replaced : (ts : Sizes) (j : ℕ) (φ φ' : Frames) → Each_all ok j ts → S j φ φ' → (vs : FlatValues) → Ways (All_fit N τ Z calls m φ (all_replaced g j ts) vs) (All_fit N τ Z calls m' φ' ts vs)
+      all_fit_replaced : (ts : Sizes) (j : ℕ) (φ φ' : Frames) → Each_all ok j ts → S j φ φ' → (vs : FlatValues) → Ways (All_fit N τ Z is_there calls m φ (all_replaced g j ts) vs) (All_fit N τ Z is_there calls m' φ' ts vs)
       all_fit_replaced no_size j φ φ' e q vs = same_ways
       all_fit_replaced (size_and t ts) j φ φ' e q vs = first_value_as _ _ _ _ (λ v. fits_replaced t j φ φ' e.0 q v) (λ vs. all_fit_replaced ts j φ φ' e.1 q vs) vs
 
-      named_fit_replaced : (ts : Sizes) (j : ℕ) (φ φ' : Frames) → Each_all ok j ts → S j φ φ' → (n i : ℕ) (fs : FlatFields) → Ways (Named_fit N τ Z calls m φ n i (all_replaced g j ts) fs) (Named_fit N τ Z calls m' φ' n i ts fs)
+      named_fit_replaced : (ts : Sizes) (j : ℕ) (φ φ' : Frames) → Each_all ok j ts → S j φ φ' → (n i : ℕ) (fs : FlatFields) → Ways (Named_fit N τ Z is_there calls m φ n i (all_replaced g j ts) fs) (Named_fit N τ Z is_there calls m' φ' n i ts fs)
       named_fit_replaced no_size j φ φ' e q n i fs = same_ways
       named_fit_replaced (size_and t ts) j φ φ' e q n i fs = let b = named_fit_replaced ts j φ φ' e.1 q n (suc i) fs in
           ((λ x. ((λ f p. let c = x.0 f p in (c.0, c.1, (fits_replaced t j φ φ' e.0 q c.0).0 c.2)), b.0 x.1)), (λ x. ((λ f p. let c = x.0 f p in (c.0, c.1, (fits_replaced t j φ φ' e.0 q c.0).1 c.2)), b.1 x.1)))
@@ -239,9 +240,9 @@ module _ (In : Free → Type 0) (m m' : Worth) where
     pub told_same : ((d : Free) → In d → m d ≡ m' d) → (t : Size) (j : ℕ) (φ φ' : Frames) → Each (Scoped In) j t → Same_below j φ φ' → (tell : List Shape → Shape) → Told_right N τ m φ t tell → Told_right N τ m' φ' t tell
     told_same all t j φ φ' e q tell x = (told_replaced N τ m m' same (Scoped In) Same_below (numbers_same (free_same all)) below_goes_in t j φ φ' e q tell).0 (subst (λ u. Told_right N τ m φ u tell) (sym (same_size t j)) x)
 
-    module _ (Z : Sizing) (calls : FlatValue → FlatValue → Rel FlatValue) where
-      pub fits_same : ((d : Free) → In d → m d ≡ m' d) → (t : Size) (j : ℕ) (φ φ' : Frames) → Each (Scoped In) j t → Same_below j φ φ' → (v : FlatValue) → Fits N τ Z calls m φ t v → Fits N τ Z calls m' φ' t v
-      fits_same all t j φ φ' e q v h = (fits_replaced N τ m m' same (Scoped In) Same_below (numbers_same (free_same all)) Z calls below_goes_in (λ j φ φ' q ks i z d. same_ways) t j φ φ' e q v).0 (subst (λ u. Fits N τ Z calls m φ u v) (sym (same_size t j)) h)
+    module _ (Z : Sizing) (is_there : Place → Bool) (calls : FlatValue → FlatValue → Rel FlatValue) where
+      pub fits_same : ((d : Free) → In d → m d ≡ m' d) → (t : Size) (j : ℕ) (φ φ' : Frames) → Each (Scoped In) j t → Same_below j φ φ' → (v : FlatValue) → Fits N τ Z is_there calls m φ t v → Fits N τ Z is_there calls m' φ' t v
+      fits_same all t j φ φ' e q v h = (fits_replaced N τ m m' same (Scoped In) Same_below (numbers_same (free_same all)) Z is_there calls below_goes_in (λ j φ φ' q ks i z d. same_ways) t j φ φ' e q v).0 (subst (λ u. Fits N τ Z is_there calls m φ u v) (sym (same_size t j)) h)
 
 -- ---- the nearest frame's sizes given
 abbrev Opens : Worth → (ℕ → Free) → (ℕ → Type 0) → ℕ → Frames → Frames → Type 0
@@ -399,14 +400,14 @@ module _ (N : Names) (τ : Meant) (m : Worth) (δ : ℕ → Free) (Q : ℕ → T
   opened_told φ φ' tell x = (told_replaced N τ m m (given δ) (Of_positions Q) (Opens m δ Q) (numbers_opened m δ Q) (opens_goes_in m δ Q) t 1 (push F φ) (push F φ) positions (starts φ) tell).0
       (told_same Any m m N τ (λ d i. refl) (opened δ t) 0 φ' (push F φ) closed (any_frames φ' (push F φ)) tell x)
 
-  module _ (Z : Sizing) (calls : FlatValue → FlatValue → Rel FlatValue) where
-    pub fits_opened : (φ φ' : Frames) (v : FlatValue) → Fits N τ Z calls m (push F φ) t v → Fits N τ Z calls m φ' (opened δ t) v
-    fits_opened φ φ' v h = fits_same Any m m N τ Z calls (λ d i. refl) (opened δ t) 0 (push F φ) φ' closed (any_frames (push F φ) φ') v
-        ((fits_replaced N τ m m (given δ) (Of_positions Q) (Opens m δ Q) (numbers_opened m δ Q) Z calls (opens_goes_in m δ Q) (opens_own m δ Q) t 1 (push F φ) (push F φ) positions (starts φ) v).1 h)
+  module _ (Z : Sizing) (is_there : Place → Bool) (calls : FlatValue → FlatValue → Rel FlatValue) where
+    pub fits_opened : (φ φ' : Frames) (v : FlatValue) → Fits N τ Z is_there calls m (push F φ) t v → Fits N τ Z is_there calls m φ' (opened δ t) v
+    fits_opened φ φ' v h = fits_same Any m m N τ Z is_there calls (λ d i. refl) (opened δ t) 0 (push F φ) φ' closed (any_frames (push F φ) φ') v
+        ((fits_replaced N τ m m (given δ) (Of_positions Q) (Opens m δ Q) (numbers_opened m δ Q) Z is_there calls (opens_goes_in m δ Q) (opens_own m δ Q) t 1 (push F φ) (push F φ) positions (starts φ) v).1 h)
 
-    pub opened_fits : (φ φ' : Frames) (v : FlatValue) → Fits N τ Z calls m φ' (opened δ t) v → Fits N τ Z calls m (push F φ) t v
-    opened_fits φ φ' v h = (fits_replaced N τ m m (given δ) (Of_positions Q) (Opens m δ Q) (numbers_opened m δ Q) Z calls (opens_goes_in m δ Q) (opens_own m δ Q) t 1 (push F φ) (push F φ) positions (starts φ) v).0
-        (fits_same Any m m N τ Z calls (λ d i. refl) (opened δ t) 0 φ' (push F φ) closed (any_frames φ' (push F φ)) v h)
+    pub opened_fits : (φ φ' : Frames) (v : FlatValue) → Fits N τ Z is_there calls m φ' (opened δ t) v → Fits N τ Z is_there calls m (push F φ) t v
+    opened_fits φ φ' v h = (fits_replaced N τ m m (given δ) (Of_positions Q) (Opens m δ Q) (numbers_opened m δ Q) Z is_there calls (opens_goes_in m δ Q) (opens_own m δ Q) t 1 (push F φ) (push F φ) positions (starts φ) v).0
+        (fits_same Any m m N τ Z is_there calls (λ d i. refl) (opened δ t) 0 φ' (push F φ) closed (any_frames φ' (push F φ)) v h)
 
 -- ---- sizes by themselves replaced
 abbrev Same_frames : ℕ → Frames → Frames → Type 0
@@ -434,7 +435,7 @@ mutual
   all_each_any no_size j = tt
   all_each_any (size_and t ts) j = (each_any t j, all_each_any ts j)
 
-module _ (N : Names) (τ : Meant) (Z : Sizing) (calls : FlatValue → FlatValue → Rel FlatValue) (m m' : Worth) (ρ : Free → Free) where
+module _ (N : Names) (τ : Meant) (Z : Sizing) (is_there : Place → Bool) (calls : FlatValue → FlatValue → Rel FlatValue) (m m' : Worth) (ρ : Free → Free) where
   numbers_renamed : ((d : Free) → free m (ρ d) ≡ free m' d) → Numbers_as m m' (renaming ρ) Any_dim Same_frames
   numbers_renamed worth j φ φ' (At d) q s = worth d
   numbers_renamed worth j φ φ' (Bound j' i) q s = q j' i
@@ -443,8 +444,8 @@ module _ (N : Names) (τ : Meant) (Z : Sizing) (calls : FlatValue → FlatValue 
   renames_own j φ φ' q ks i e (At d) = same_ways
   renames_own j φ φ' q ks n e (Bound j' i) = same_ways
 
-  pub fits_renamed : ((d : Free) → free m (ρ d) ≡ free m' d) → (t : Size) (φ : Frames) (v : FlatValue) → Ways (Fits N τ Z calls m φ (renamed ρ t) v) (Fits N τ Z calls m' φ t v)
-  fits_renamed worth t φ v = fits_replaced N τ m m' (renaming ρ) Any_dim Same_frames (numbers_renamed worth) Z calls frames_go_in renames_own t 0 φ φ (each_any t 0) (λ j' i. refl) v
+  pub fits_renamed : ((d : Free) → free m (ρ d) ≡ free m' d) → (t : Size) (φ : Frames) (v : FlatValue) → Ways (Fits N τ Z is_there calls m φ (renamed ρ t) v) (Fits N τ Z is_there calls m' φ t v)
+  fits_renamed worth t φ v = fits_replaced N τ m m' (renaming ρ) Any_dim Same_frames (numbers_renamed worth) Z is_there calls frames_go_in renames_own t 0 φ φ (each_any t 0) (λ j' i. refl) v
 
   pub shape_renamed : ((d : Free) → free m (ρ d) ≡ free m' d) → (t : Size) (φ : Frames) (h : Shape) → Ways (Has_shape N τ m φ (renamed ρ t) h) (Has_shape N τ m' φ t h)
   shape_renamed worth t φ h = shape_replaced N τ m m' (renaming ρ) Any_dim Same_frames (numbers_renamed worth) t 0 φ φ (each_any t 0) (λ j' i. refl) h
@@ -454,8 +455,8 @@ module _ (N : Names) (τ : Meant) (Z : Sizing) (calls : FlatValue → FlatValue 
   numbers_in In worth j φ φ' (At d) q s = worth d s
   numbers_in In worth j φ φ' (Bound j' i) q s = q j' i
 
-  pub fits_renamed_in : (In : Free → Type 0) → ((d : Free) → In d → free m (ρ d) ≡ free m' d) → (t : Size) (φ : Frames) (v : FlatValue) → Each (Scoped In) 0 t → Fits N τ Z calls m' φ t v → Fits N τ Z calls m φ (renamed ρ t) v
-  fits_renamed_in In worth t φ v e h = (fits_replaced N τ m m' (renaming ρ) (Scoped In) Same_frames (numbers_in In worth) Z calls frames_go_in renames_own t 0 φ φ e (λ j' i. refl) v).1 h
+  pub fits_renamed_in : (In : Free → Type 0) → ((d : Free) → In d → free m (ρ d) ≡ free m' d) → (t : Size) (φ : Frames) (v : FlatValue) → Each (Scoped In) 0 t → Fits N τ Z is_there calls m' φ t v → Fits N τ Z is_there calls m φ (renamed ρ t) v
+  fits_renamed_in In worth t φ v e h = (fits_replaced N τ m m' (renaming ρ) (Scoped In) Same_frames (numbers_in In worth) Z is_there calls frames_go_in renames_own t 0 φ φ e (λ j' i. refl) v).1 h
 
   pub shape_renamed_in : (In : Free → Type 0) → ((d : Free) → In d → free m (ρ d) ≡ free m' d) → (t : Size) (φ : Frames) (h : Shape) → Each (Scoped In) 0 t → Has_shape N τ m' φ t h → Has_shape N τ m φ (renamed ρ t) h
   shape_renamed_in In worth t φ h e x = (shape_replaced N τ m m' (renaming ρ) (Scoped In) Same_frames (numbers_in In worth) t 0 φ φ e (λ j' i. refl) h).1 x

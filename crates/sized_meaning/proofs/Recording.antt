@@ -1,10 +1,11 @@
 -- Records and the parts of records and tuples are of their sized types: making a record, another value for one of its fields, and a
 -- part that a name or a position names.
+use Rattle.sized_meaning.specs.There.{There}
 use Rattle.std.specs.Prelude.{decimal, ◌*◌, ◌^◌, map}
 use Rattle.std.specs.Int.{IsInRange}
 use Rattle.std.specs.Str.{bytes_eq}
 use Rattle.std.specs.Str.Parse.{digits_value}
-use Rattle.std.proofs.Common.{◌≡◌, ℕ, zero, suc, ◌+◌, ◌-◌, ◌<◌, ◌≤◌, ◌==◌, List, [], ◌∷◌, Bool, true, false, cond, if◌then◌else◌, nat_eq, Option, Some, None, refl, sym, ap, ◌∙◌, subst, arith, eqb-true, eq-eqb}
+use Rattle.std.proofs.Common.{◌≡◌, ℕ, zero, suc, ◌+◌, ◌-◌, ◌<◌, ◌≤◌, ◌==◌, List, [], ◌∷◌, length, Bool, true, false, cond, if◌then◌else◌, nat_eq, Option, Some, None, refl, sym, ap, ◌∙◌, subst, arith, eqb-true, eq-eqb}
 use Rattle.std.proofs.lemmas.Slice.Eq.{bytes_eq-Decides}
 use Rattle.std.proofs.lemmas.Str.Parse.{IsDigitsTest, FoldsDigits, IsNumeralModel, numerals_by_fold}
 use Rattle.std.proofs.lemmas.Fmt.{decimal-digits_value, decimal_is_IsNumeral}
@@ -22,10 +23,11 @@ use Rattle.fut_sizes.specs.Agreeing.{is_among}
 use Rattle.fut_sizes.specs.Operations.{many, labelled, in_order}
 use Rattle.fut_sizes.specs.WrittenSizes.{part as size_part, with_part, part_of}
 use Rattle.sized_meaning.specs.Worth.{Worth, no_frames}
-use Rattle.sized_meaning.specs.Shapes.{Meant}
+use Rattle.sized_meaning.specs.Shapes.{Meant, Record_names}
 use Rattle.sized_meaning.specs.Finding.{One_kind_each}
-use Rattle.sized_meaning.specs.Fits.{FlatValues, FlatFields, Out_fits, Fits, All_fit, Named_fit}
+use Rattle.sized_meaning.specs.Fits.{FlatValues, FlatFields, field_names, Out_fits, Fits, All_fit, Named_fit}
 use Rattle.sized_meaning.specs.Law.{Sound, World, calls, Apart_labels}
+use Rattle.sized_meaning.proofs.Fields.{record_put, field_put, absent, changed_names}
 use Rattle.sized_meaning.proofs.Finding.{some_same, none_no, text_same, same_text, place_on}
 
 -- ---- positions as they are written
@@ -141,6 +143,22 @@ label_there at label (x ∷ xs) k e = tested (x == label) refl e k refl (λ k q.
     tested false q e zero z rest low = absurd (let w = low (k + at) e in omega (arith, w, z))
     tested false q e (suc j) z rest low = rest j (e ∙ ap Some (let w : k + at ≡ j + suc at = omega (arith, z) in w))
 
+-- a label that is there has a place
+among_placed : (at label : ℕ) (xs : List ℕ) → is_among xs label ≡ true → (i : ℕ) × (place_from at label xs ≡ Some i) × (i < length xs + at)
+unfolding place_from
+among_placed at label [] e = absurd (let z : false ≡ true = e in cc)
+among_placed at label (x ∷ xs) e = tested (x == label) refl (nat_eq label x) refl e (λ q. among_placed (suc at) label xs q)
+  where
+    tested : (b : Bool) → x == label ≡ b → (c : Bool) → nat_eq label x ≡ c → cond c true (is_among xs label) ≡ true → (is_among xs label ≡ true → (i : ℕ) × (place_from (suc at) label xs ≡ Some i) × (i < length xs + suc at))
+        → (i : ℕ) × ((if b then Some at else place_from (suc at) label xs) ≡ Some i) × (i < suc (length xs) + at)
+    tested true q c w e rest = (at, refl, omega arith)
+    tested false q true w e rest = absurd (let z : true ≡ false = sym (eq-eqb x label (sym (eqb-true label x w))) ∙ q in cc)
+    tested false q false w e rest = let k = rest e in (k.0, k.1, (let l = k.2 in omega (arith, l)))
+
+later_label : (x y : Bool) → y ≡ true → cond x true y ≡ true
+later_label true y e = refl
+later_label false y e = e
+
 -- one that is not among the labels of names is none of theirs
 no_label : (N : Names) (f g : Text) (gs : List Text) → is_among (map N.label (g ∷ gs)) (N.label f) ≡ false → (f ≡ g → ⊥) × (is_among (map N.label gs) (N.label f) ≡ false)
 no_label N f g gs e = tested (nat_eq (N.label f) (N.label g)) refl e
@@ -160,7 +178,7 @@ none_named N f (g ∷ gs) (v ∷ vs) named n e =
 
 module _ (N : Names) (types : Sub) (τ : Meant) (W : World) (S : Sound N types W.sizing) (one : One_kind_each τ) (m : Worth) where
   abbrev Of : Size → FlatValue → Type 0
-  Of t v = Fits N τ W.sizing (calls W) m no_frames t v
+  Of t v = Fits N τ W.sizing W.is_there (calls W) m no_frames t v
 
   -- ---- a record of values
 
@@ -172,7 +190,7 @@ module _ (N : Names) (types : Sub) (τ : Meant) (W : World) (S : Sound N types W
     valued : (f : Text) → N.label f ≡ l → field f gs ≡ Some value
     fits : Of part value
 
-  one_part : (l : ℕ) (fs : List Text) (ts rest : Sizes) (vs : List FlatValue) (named : List (Text × FlatValue)) → Apart_labels N fs → is_among (map N.label fs) l ≡ true → named_values fs vs ≡ Some named → All_fit N τ W.sizing (calls W) m no_frames ts (values vs) → One_part l fs ts rest (fields named)
+  one_part : (l : ℕ) (fs : List Text) (ts rest : Sizes) (vs : List FlatValue) (named : List (Text × FlatValue)) → Apart_labels N fs → is_among (map N.label fs) l ≡ true → named_values fs vs ≡ Some named → All_fit N τ W.sizing W.is_there (calls W) m no_frames ts (values vs) → One_part l fs ts rest (fields named)
   unfolding All_fit
   one_part l [] ts rest vs named apart among e h = absurd (let z : false ≡ true = among in cc)
   one_part l (g ∷ fs) ts rest [] named apart among e h = none_no e
@@ -199,15 +217,15 @@ module _ (N : Names) (types : Sub) (τ : Meant) (W : World) (S : Sound N types W
         fits = r.fits;
       }
 
-  each_part : (n i : ℕ) (ls : List ℕ) (fs : List Text) (ts : Sizes) (vs : List FlatValue) (named : List (Text × FlatValue)) → Apart_labels N fs → ((l : ℕ) → is_among ls l ≡ true → is_among (map N.label fs) l ≡ true) → named_values fs vs ≡ Some named → All_fit N τ W.sizing (calls W) m no_frames ts (values vs)
-      → ((f : Text) (k : ℕ) → place N.shapes (N.label f) (head.Record n) ≡ Some (k + i) → nth_label ls k ≡ Some (N.label f)) → Named_fit N τ W.sizing (calls W) m no_frames n i (in_order N ls fs ts) (fields named)
+  each_part : (n i : ℕ) (ls : List ℕ) (fs : List Text) (ts : Sizes) (vs : List FlatValue) (named : List (Text × FlatValue)) → Apart_labels N fs → ((l : ℕ) → is_among ls l ≡ true → is_among (map N.label fs) l ≡ true) → named_values fs vs ≡ Some named → All_fit N τ W.sizing W.is_there (calls W) m no_frames ts (values vs)
+      → ((f : Text) (k : ℕ) → place N.shapes (N.label f) (head.Record n) ≡ Some (k + i) → nth_label ls k ≡ Some (N.label f)) → Record_names N n (length ls + i) (field_names (fields named)) → Named_fit N τ W.sizing W.is_there (calls W) m no_frames n i (in_order N ls fs ts) (fields named)
   unfolding Named_fit nth_label
-  each_part n i [] fs ts vs named apart all e h there = tt
-  each_part n i (l ∷ ls) fs ts vs named apart all e h there =
+  each_part n i [] fs ts vs named apart all e h there names = subst (λ k. Record_names N n k (field_names (fields named))) (let z : 0 + i ≡ i = omega arith in z) names
+  each_part n i (l ∷ ls) fs ts vs named apart all e h there names =
       let r = one_part l fs ts (in_order N ls fs ts) vs named apart (all l (ap (λ b. cond b true (is_among ls l)) (eq-eqb l l refl))) e h in
-      subst (λ us. Named_fit N τ W.sizing (calls W) m no_frames n i us (fields named)) (sym r.labelled_part) (
+      subst (λ us. Named_fit N τ W.sizing W.is_there (calls W) m no_frames n i us (fields named)) (sym r.labelled_part) (
         (λ f p. (r.value, r.valued f (sym (some_same (there f 0 (p ∙ ap Some (let z : i ≡ 0 + i = omega arith in z))))), r.fits)),
-        each_part n (suc i) ls fs ts vs named apart (λ k q. all k (later k q)) e h (λ f k p. there f (suc k) (p ∙ ap Some (let z : k + suc i ≡ suc k + i = omega arith in z))),
+        each_part n (suc i) ls fs ts vs named apart (λ k q. all k (later k q)) e h (λ f k p. there f (suc k) (p ∙ ap Some (let z : k + suc i ≡ suc k + i = omega arith in z))) (subst (λ k. Record_names N n k (field_names (fields named))) (let z : length (l ∷ ls) + i ≡ length ls + suc i = omega arith in z) names),
       )
     where
       later : (k : ℕ) → is_among ls k ≡ true → is_among (l ∷ ls) k ≡ true
@@ -217,16 +235,30 @@ module _ (N : Names) (types : Sub) (τ : Meant) (W : World) (S : Sound N types W
           tested true = refl
           tested false = q
 
-  pub record_made : (n : ℕ) (fs : List Text) (ts : Sizes) (vs : List FlatValue) → Apart_labels N fs → ((l : ℕ) → is_among (N.shapes.fields n) l ≡ true → is_among (map N.label fs) l ≡ true) → All_fit N τ W.sizing (calls W) m no_frames ts (values vs)
+  -- the names that are put in are those of the record's fields
+  made_names : (n : ℕ) (fs : List Text) (vs : List FlatValue) (named : List (Text × FlatValue)) → Apart_labels N fs → ((l : ℕ) → is_among (map N.label fs) l ≡ true → is_among (N.shapes.fields n) l ≡ true) → named_values fs vs ≡ Some named → Record_names N n (length (N.shapes.fields n) + 0) (field_names (fields named))
+  unfolding place
+  made_names n [] [] named apart only e = subst (λ y. Record_names N n (length (N.shapes.fields n) + 0) (field_names (fields y))) (some_same e) (tt, tt)
+  made_names n [] (v ∷ vs) named apart only e = none_no e
+  made_names n (f ∷ fs) [] named apart only e = none_no e
+  made_names n (f ∷ fs) (v ∷ vs) named apart only e =
+      let r = with_name_is f v (named_values fs vs) named e in
+      let p = among_placed 0 (N.label f) (N.shapes.fields n) (only (N.label f) (ap (λ b. cond b true (is_among (map N.label fs) (N.label f))) (eq-eqb (N.label f) (N.label f) refl))) in
+      subst (λ y. Record_names N n (length (N.shapes.fields n) + 0) (field_names (fields y))) r.2
+      (subst (Record_names N n (length (N.shapes.fields n) + 0)) (sym (field_put f v (fields r.0)))
+      (record_put N n (length (N.shapes.fields n) + 0) f (field_names (fields r.0)) p.0 p.1 p.2 (absent f (fields r.0) (none_named N f fs vs r.0 apart.0 r.1))
+      (made_names n fs vs r.0 apart.1 (λ l q. only l (later_label (nat_eq l (N.label f)) (is_among (map N.label fs) l) q)) r.1)))
+
+  pub record_made : (n : ℕ) (fs : List Text) (ts : Sizes) (vs : List FlatValue) → Apart_labels N fs → ((l : ℕ) → is_among (N.shapes.fields n) l ≡ true → is_among (map N.label fs) l ≡ true) → ((l : ℕ) → is_among (map N.label fs) l ≡ true → is_among (N.shapes.fields n) l ≡ true) → All_fit N τ W.sizing W.is_there (calls W) m no_frames ts (values vs)
       → (named : List (Text × FlatValue)) → named_values fs vs ≡ Some named → Of (Built (head.Record n) (in_order N (N.shapes.fields n) fs ts)) (Record_value (fields named))
   unfolding Fits place
-  record_made n fs ts vs apart all h named e = each_part n 0 (N.shapes.fields n) fs ts vs named apart all e h (λ f k p. label_there 0 (N.label f) (N.shapes.fields n) k p)
+  record_made n fs ts vs apart all only h named e = each_part n 0 (N.shapes.fields n) fs ts vs named apart all e h (λ f k p. label_there 0 (N.label f) (N.shapes.fields n) k p) (made_names n fs vs named apart only e)
 
   -- ---- a record with another value for one field
 
-  others_kept : (n i : ℕ) (f : Text) (w : FlatValue) (ts : Sizes) (gs : FlatFields) → ((g : Text) (j : ℕ) → i ≤ j → place N.shapes (N.label g) (head.Record n) ≡ Some j → g ≡ f → ⊥) → Named_fit N τ W.sizing (calls W) m no_frames n i ts gs → Named_fit N τ W.sizing (calls W) m no_frames n i ts (replaced f w gs)
+  others_kept : (n i : ℕ) (f : Text) (w : FlatValue) (ts : Sizes) (gs : FlatFields) → ((g : Text) (j : ℕ) → i ≤ j → place N.shapes (N.label g) (head.Record n) ≡ Some j → g ≡ f → ⊥) → Named_fit N τ W.sizing W.is_there (calls W) m no_frames n i ts gs → Named_fit N τ W.sizing W.is_there (calls W) m no_frames n i ts (replaced f w gs)
   unfolding Named_fit
-  others_kept n i f w no_size gs other h = tt
+  others_kept n i f w no_size gs other h = subst (Record_names N n i) (sym (changed_names f w gs)) h
   others_kept n i f w (size_and t ts) gs other h = (
     (λ g p. let c = h.0 g p in (c.0, changed_other f g w gs (other g i (omega arith) p) ∙ c.1, c.2)),
     others_kept n (suc i) f w ts gs (λ g j l p. other g j (omega (arith, l)) p) h.1,
@@ -236,9 +268,9 @@ module _ (N : Names) (types : Sub) (τ : Meant) (W : World) (S : Sound N types W
   two_places : (n i j : ℕ) (f g : Text) → place N.shapes (N.label f) (head.Record n) ≡ Some i → place N.shapes (N.label g) (head.Record n) ≡ Some j → g ≡ f → j ≡ i
   two_places n i j f g p q e = some_same (sym q ∙ ap (λ x. place N.shapes (N.label x) (head.Record n)) e ∙ p)
 
-  one_changed : (n i k : ℕ) (f : Text) (u : Size) (w : FlatValue) (ts : Sizes) (gs : FlatFields) → place N.shapes (N.label f) (head.Record n) ≡ Some (k + i) → Of u w → Named_fit N τ W.sizing (calls W) m no_frames n i ts gs → Named_fit N τ W.sizing (calls W) m no_frames n i (with_part (Some k) (λ x. u) ts) (replaced f w gs)
+  one_changed : (n i k : ℕ) (f : Text) (u : Size) (w : FlatValue) (ts : Sizes) (gs : FlatFields) → place N.shapes (N.label f) (head.Record n) ≡ Some (k + i) → Of u w → Named_fit N τ W.sizing W.is_there (calls W) m no_frames n i ts gs → Named_fit N τ W.sizing W.is_there (calls W) m no_frames n i (with_part (Some k) (λ x. u) ts) (replaced f w gs)
   unfolding Named_fit
-  one_changed n i k f u w no_size gs p hw h = tt
+  one_changed n i k f u w no_size gs p hw h = subst (Record_names N n i) (sym (changed_names f w gs)) h
   one_changed n i zero f u w (size_and t ts) gs p hw h = (
     (λ g q. (
       w,
@@ -257,7 +289,7 @@ module _ (N : Names) (types : Sub) (τ : Meant) (W : World) (S : Sound N types W
   unfolding Fits
   record_changed n f u w ts gs hw h = by_place (place N.shapes (N.label f) (head.Record n)) refl
     where
-      by_place : (o : Option ℕ) → place N.shapes (N.label f) (head.Record n) ≡ o → Named_fit N τ W.sizing (calls W) m no_frames n 0 (with_part o (λ x. u) ts) (replaced f w gs)
+      by_place : (o : Option ℕ) → place N.shapes (N.label f) (head.Record n) ≡ o → Named_fit N τ W.sizing W.is_there (calls W) m no_frames n 0 (with_part o (λ x. u) ts) (replaced f w gs)
       by_place None p = others_kept n 0 f w ts gs (λ g j l q e. none_no (sym p ∙ ap (λ x. place N.shapes (N.label x) (head.Record n)) (sym e) ∙ q)) h
       by_place (Some k) p = one_changed n 0 k f u w ts gs (p ∙ ap Some (let z : k ≡ k + 0 = omega arith in z)) hw h
 
@@ -268,25 +300,25 @@ module _ (N : Names) (types : Sub) (τ : Meant) (W : World) (S : Sound N types W
   part_low (size_and t ts) zero u e = omega arith
   part_low (size_and t ts) (suc i) u e = let r = part_low ts i u e in omega (arith, r)
 
-  at_position : (ts : Sizes) (vs : FlatValues) (i k : ℕ) (f : Text) (u : Size) → size_part (Some i) ts ≡ Some u → All_fit N τ W.sizing (calls W) m no_frames ts vs → decimal (k + i) ≡ f → k + many ts ≤ 2 ^ 64 → Out_fits (Of u) (or_wrong (part_from k f vs))
+  at_position : (ts : Sizes) (vs : FlatValues) (i k : ℕ) (f : Text) (u : Size) → size_part (Some i) ts ≡ Some u → All_fit N τ W.sizing W.is_there (calls W) m no_frames ts vs → decimal (k + i) ≡ f → k + many ts ≤ 2 ^ 64 → Out_fits (There W.is_there) (Of u) (or_wrong (part_from k f vs))
   unfolding All_fit
   at_position no_size vs i k f u e h d le = none_no e
   at_position (size_and t ts) no_value i k f u e h d le = absurd h
   at_position (size_and t ts) (value_and v vs) zero k f u e h d le =
       let here : decimal k ≡ f = ap decimal (let w : k ≡ k + 0 = omega arith in w) ∙ d in
-      subst (λ b. Out_fits (Of u) (or_wrong (cond b (Some v) (part_from (suc k) f vs)))) (sym ((bytes_eq-Decides (decimal k) f).1 here)) (subst (λ x. Of x v) (some_same e) h.0)
+      subst (λ b. Out_fits (There W.is_there) (Of u) (or_wrong (cond b (Some v) (part_from (suc k) f vs)))) (sym ((bytes_eq-Decides (decimal k) f).1 here)) (subst (λ x. Of x v) (some_same e) h.0)
   at_position (size_and t ts) (value_and v vs) (suc i) k f u e h d le =
       let l = part_low ts i u e in
       tested (bytes_eq (decimal k) f) refl l (at_position ts vs i (suc k) f u e h.1 (ap decimal (let w : suc k + i ≡ k + suc i = omega arith in w) ∙ d) (omega (arith, le)))
     where
-      tested : (b : Bool) → bytes_eq (decimal k) f ≡ b → i < many ts → Out_fits (Of u) (or_wrong (part_from (suc k) f vs)) → Out_fits (Of u) (or_wrong (cond b (Some v) (part_from (suc k) f vs)))
+      tested : (b : Bool) → bytes_eq (decimal k) f ≡ b → i < many ts → Out_fits (There W.is_there) (Of u) (or_wrong (part_from (suc k) f vs)) → Out_fits (There W.is_there) (Of u) (or_wrong (cond b (Some v) (part_from (suc k) f vs)))
       tested true q l rest = absurd (let z : k ≡ k + suc i = one_number k (k + suc i) (omega (arith, le, l)) (omega (arith, le, l)) (text_same (decimal k) f q ∙ sym d) in omega (arith, z))
       tested false q l rest = rest
 
-  pub tuple_part : (f : Text) (ts : Sizes) (u : Size) (vs : FlatValues) → part_of N f (Built head.Tuple ts) ≡ Some u → many ts < 2 ^ 64 → All_fit N τ W.sizing (calls W) m no_frames ts vs → Out_fits (Of u) (or_wrong (part_from 0 f vs))
+  pub tuple_part : (f : Text) (ts : Sizes) (u : Size) (vs : FlatValues) → part_of N f (Built head.Tuple ts) ≡ Some u → many ts < 2 ^ 64 → All_fit N τ W.sizing W.is_there (calls W) m no_frames ts vs → Out_fits (There W.is_there) (Of u) (or_wrong (part_from 0 f vs))
   unfolding part_of place
   tuple_part f ts u vs e l h = by_place (N.shapes.position (N.label f)) refl e
     where
-      by_place : (o : Option ℕ) → N.shapes.position (N.label f) ≡ o → size_part o ts ≡ Some u → Out_fits (Of u) (or_wrong (part_from 0 f vs))
+      by_place : (o : Option ℕ) → N.shapes.position (N.label f) ≡ o → size_part o ts ≡ Some u → Out_fits (There W.is_there) (Of u) (or_wrong (part_from 0 f vs))
       by_place None p e = none_no e
       by_place (Some i) p e = let z = part_low ts i u e in at_position ts vs i 0 f u e h (ap decimal (let w : 0 + i ≡ i = omega arith in w) ∙ spelled f i ((S.names.position f i).0 p) (omega (arith, z, l))) (omega (arith, l))

@@ -13,7 +13,6 @@ use Rattle.fut_scalar.specs.declared.operator.ScalarFault.TheVariants as fault
 use Rattle.fut_scalar.specs.declared.place.Place.{Place}
 use Rattle.fut_scalar.specs.declared.report.FailKind.{FailKind}
 use Rattle.fut_scalar.specs.declared.report.FailKind.TheVariants as kind
-use Rattle.fut_scalar.specs.declared.report.Report.{Report}
 use Rattle.fut_scalar.specs.declared.scalar.IntType.{IntType}
 use Rattle.fut_scalar.specs.declared.scalar.Scalar.{Scalar}
 use Rattle.fut_scalar.specs.declared.scalar.Scalar.TheVariants as scalar
@@ -28,16 +27,12 @@ use Rattle.fut_meaning.specs.Jobs.{size_of, beside, tupled, numbers_from, i64_sh
 use Rattle.fut_meaning.specs.Operations.{reported}
 use Rattle.fut_meaning.specs.Operators.{by_kind, binary_result, is_same_type}
 use Rattle.fut_meaning.specs.Outcomes.{Out, Val, Fail, Wrong, and_then}
-use Rattle.sized_meaning.specs.Reports.{Primitive_there}
+use Rattle.sized_meaning.specs.There.{There, Primitive_there}
+use Rattle.sized_meaning.specs.Fits.{Out_fits}
 
 module _ (is_there : Place → Bool) where
-  abbrev pub There : Report → Type 0
-  There r = r.kind ≡ kind.Size → is_there r.place ≡ true
-
   abbrev pub Out_there : {A : Type 0} → (A → Type 0) → Out A → Type 0
-  Out_there P (Val a) = P a
-  Out_there P (Fail r) = There r
-  Out_there P Wrong = Unit {0}
+  Out_there P o = Out_fits (There is_there) P o
 
   -- whatever is given
   abbrev pub Fine : {A : Type 0} → Out A → Type 0
@@ -54,13 +49,13 @@ module _ (is_there : Place → Bool) where
   abbrev pub No_size : FailKind → Type 0
   No_size k = k ≡ kind.Size → ⊥
 
-  bounds : No_size kind.Bounds
+  pub bounds : No_size kind.Bounds
   bounds e = let z = e in cc
 
-  range_kind : No_size kind.Range
+  pub range_kind : No_size kind.Range
   range_kind e = let z = e in cc
 
-  heavy : No_size kind.TooLarge
+  pub heavy : No_size kind.TooLarge
   heavy e = let z = e in cc
 
   fails : {A : Type 0} (P : A → Type 0) (k : FailKind) (at : Place) → No_size k → Out_there P (failure k at)
@@ -86,26 +81,26 @@ module _ (is_there : Place → Bool) where
   integer_fine (scalar.Int t n) = tt
   integer_fine (scalar.Bool b) = tt
 
-  exact_fine : (d : Datum) → Fine (exact_of d)
+  pub exact_fine : (d : Datum) → Fine (exact_of d)
   exact_fine (Scalar_datum s) = integer_fine s
   exact_fine (Array_datum row ds) = tt
   exact_fine (Tuple_datum ds) = tt
   exact_fine (Record_datum fs) = tt
 
-  truth_fine : (d : Datum) → Fine (truth_of_datum d)
+  pub truth_fine : (d : Datum) → Fine (truth_of_datum d)
   truth_fine (Scalar_datum (scalar.Bool b)) = tt
   truth_fine (Scalar_datum (scalar.Int t n)) = tt
   truth_fine (Array_datum row ds) = tt
   truth_fine (Tuple_datum ds) = tt
   truth_fine (Record_datum fs) = tt
 
-  scalar_fine : (d : Datum) → Fine (scalar_of_datum d)
+  pub scalar_fine : (d : Datum) → Fine (scalar_of_datum d)
   scalar_fine (Scalar_datum s) = tt
   scalar_fine (Array_datum row ds) = tt
   scalar_fine (Tuple_datum ds) = tt
   scalar_fine (Record_datum fs) = tt
 
-  each_fine : {A B : Type 0} (g : A → Out B) → ((x : A) → Fine (g x)) → (xs : List A) → Fine (each_out g xs)
+  pub each_fine : {A B : Type 0} (g : A → Out B) → ((x : A) → Fine (g x)) → (xs : List A) → Fine (each_out g xs)
   each_fine g h [] = tt
   each_fine g h (x ∷ xs) = fine_then _ (g x) _ (h x) (λ y. fine_then _ (each_out g xs) _ (each_fine g h xs) (λ ys. tt))
 
@@ -153,7 +148,7 @@ module _ (is_there : Place → Bool) where
   slice_fine at n (pos i) (negsuc j) = fails {A = Cut} (λ x. Unit {0}) kind.Bounds at bounds
   slice_fine at n (negsuc i) j = fails {A = Cut} (λ x. Unit {0}) kind.Bounds at bounds
 
-  cut_of_fine : (at : Place) (n : ℕ) (p : Pick) → Fine (cut_of at n p)
+  pub cut_of_fine : (at : Place) (n : ℕ) (p : Pick) → Fine (cut_of at n p)
   cut_of_fine at n (Pick_at (pos i)) = tested (λ x. Unit {0}) (nat_le (suc i) n) kind.Bounds at (Val (Cut_at i)) bounds tt
   cut_of_fine at n (Pick_at (negsuc i)) = fails {A = Cut} (λ x. Unit {0}) kind.Bounds at bounds
   cut_of_fine at n (Pick_slice i j) = slice_fine at n (or_else (pos 0) i) (or_else (pos n) j)
@@ -184,7 +179,7 @@ module _ (is_there : Place → Bool) where
   updated_fine at [] v d = fitted (λ x. Unit {0}) (same_sizes (shape_of d) (shape_of v)) at (Val v) tt
   updated_fine at (z ∷ zs) v d = fine_then _ (rows_of d) _ (rows_fine d) (λ r. fine_then _ (row_at at z r.1) _ (row_fine at z r.1) (λ e. fine_then _ (updated true at zs v e) _ (updated_fine at zs v e) (λ u. tt)))
 
-  last_fine : (ds : List Datum) → Fine (last_apart ds)
+  pub last_fine : (ds : List Datum) → Fine (last_apart ds)
   last_fine [] = tt
   last_fine (v ∷ []) = tt
   last_fine (i ∷ v ∷ vs) = fine_then _ (last_apart (v ∷ vs)) _ (last_fine (v ∷ vs)) (λ r. tt)

@@ -1,4 +1,8 @@
 -- Primitives that give rows of an array, or make one of data, are of their sized types.
+use Rattle.sized_meaning.proofs.Quiet.{out_of_bounds, bad_range, too_large}
+use Rattle.sized_meaning.proofs.Alone.{shape_alone}
+use Rattle.sized_meaning.proofs.Misfits.{fits_here, shown_same}
+use Rattle.sized_meaning.specs.There.{There}
 use Rattle.std.specs.Prelude.{ℤ, pos, negsuc, nat_le, take, drop, reverse, replicate, unsigned_abs, not}
 use Rattle.std.specs.Int.{int_rem_euclid}
 use Rattle.std.proofs.Common.{◌≡◌, ℕ, zero, suc, ◌+◌, List, [], ◌∷◌, ◌++◌, length, Bool, true, false, cond, nat_eq, refl, sym, ap, ◌∙◌, subst, arith}
@@ -79,14 +83,14 @@ every_but_last P [] e = tt
 every_but_last P (x ∷ []) e = tt
 every_but_last P (x ∷ y ∷ xs) e = (e.0, every_but_last P (y ∷ xs) e.1)
 
-first_out : (P : Datum → Type 0) (at : Place) (xs : List Datum) → Every P xs → Out_fits P (or_bounds at (first_of_rows xs))
-first_out P at [] e = tt
-first_out P at (x ∷ xs) e = e.0
+first_out : (is_there : Place → Bool) (P : Datum → Type 0) (at : Place) (xs : List Datum) → Every P xs → Out_fits (There is_there) P (or_bounds at (first_of_rows xs))
+first_out is_there P at [] e = out_of_bounds is_there at
+first_out is_there P at (x ∷ xs) e = e.0
 
-last_out : (P : Datum → Type 0) (at : Place) (xs : List Datum) → Every P xs → Out_fits P (or_bounds at (last_of xs))
-last_out P at [] e = tt
-last_out P at (x ∷ []) e = e.0
-last_out P at (x ∷ y ∷ xs) e = last_out P at (y ∷ xs) e.1
+last_out : (is_there : Place → Bool) (P : Datum → Type 0) (at : Place) (xs : List Datum) → Every P xs → Out_fits (There is_there) P (or_bounds at (last_of xs))
+last_out is_there P at [] e = out_of_bounds is_there at
+last_out is_there P at (x ∷ []) e = e.0
+last_out is_there P at (x ∷ y ∷ xs) e = last_out is_there P at (y ∷ xs) e.1
 
 pub many_numbers : (k i : ℕ) → length (numbers_from k i) ≡ k
 many_numbers zero i = refl
@@ -111,44 +115,44 @@ module _ (N : Names) (types : Sub) (τ : Meant) (W : World) (S : Sound N types W
     data_A = data_array (Bound 0 0) a data_a
 
     -- rows, as many as a size says
-    pub rows_met : (k : ℕ) (F : ℕ → ℕ) (x : Dim) (row : Shape) (ds : List Datum) → length ds ≡ number m (push F φ) x → Has_shape N τ m (push F φ) a row → Every (Has_datum N τ m (push F φ) a) ds → Out_fits (Met N types τ W S one m k F φ (Level x a)) (array_of at row ds)
-    rows_met k F x row ds l h e = out_as (Has_datum N τ m (push F φ) (Level x a)) (Met N types τ W S one m k F φ (Level x a)) (array_of at row ds) (λ d y. no_more N types τ W S one m k F φ (Level x a) d y) (rows_made N types τ W S one m (push F φ) x a at row ds l h e)
+    pub rows_met : (k : ℕ) (F : ℕ → ℕ) (x : Dim) (row : Shape) (ds : List Datum) → length ds ≡ number m (push F φ) x → Has_shape N τ m (push F φ) a row → Every (Has_datum N τ m (push F φ) a) ds → Out_fits (There W.is_there) (Met N types τ W S one m k F φ (Level x a)) (array_of at row ds)
+    rows_met k F x row ds l h e = out_as _ (Has_datum N τ m (push F φ) (Level x a)) (Met N types τ W S one m k F φ (Level x a)) (array_of at row ds) (λ d y. no_more N types τ W S one m k F φ (Level x a) d y) (rows_made N types τ W S one m (push F φ) x a at row ds l h e)
 
     -- rows, as many as are met
-    pub some_met : (k : ℕ) (F : ℕ → ℕ) (row : Shape) (ds : List Datum) → Has_shape N τ m (push F φ) a row → Every (Has_datum N τ m (push F φ) a) ds → Out_fits (Met N types τ W S one m k F φ (Level (Bound 0 (suc k)) a)) (array_of at row ds)
+    pub some_met : (k : ℕ) (F : ℕ → ℕ) (row : Shape) (ds : List Datum) → Has_shape N τ m (push F φ) a row → Every (Has_datum N τ m (push F φ) a) ds → Out_fits (There W.is_there) (Met N types τ W S one m k F φ (Level (Bound 0 (suc k)) a)) (array_of at row ds)
     unfolding push
     some_met k F row ds h e =
         let F' : ℕ → ℕ = met_at k F (length ds) in
-        out_as (Has_datum N τ m (push F' φ) (Level (Bound 0 (suc k)) a)) (Met N types τ W S one m k F φ (Level (Bound 0 (suc k)) a)) (array_of at row ds)
+        out_as _ (Has_datum N τ m (push F' φ) (Level (Bound 0 (suc k)) a)) (Met N types τ W S one m k F φ (Level (Bound 0 (suc k)) a)) (array_of at row ds)
         (λ d y. (F', (λ i l. met_before k F (length ds) i l), y))
         (rows_made N types τ W S one m (push F' φ) (Bound 0 (suc k)) a at row ds (sym (met_here k F (length ds))) (shape_anywhere N types τ W S one m a closed_a (push F φ) (push F' φ) row h)
         (every_as (Has_datum N τ m (push F φ) a) (Has_datum N τ m (push F' φ) a) (λ d y. datum_anywhere N types τ W S one m a closed_a (push F φ) (push F' φ) d y) ds e))
 
-    pub new_rows : (k : ℕ) (F : ℕ → ℕ) (r : Size) (row : Shape) (ds : List Datum) → Out_fits (Met N types τ W S one m k F φ r) (array_of at row ds) → Out_fits (Done_with (Met N types τ W S one m k F φ r)) (done (all_fresh (array_of at row ds)))
-    new_rows k F r row ds h = done_out (Met N types τ W S one m k F φ r) (all_fresh (array_of at row ds)) (fresh_out (Met N types τ W S one m k F φ r) (array_of at row ds) h)
+    pub new_rows : (k : ℕ) (F : ℕ → ℕ) (r : Size) (row : Shape) (ds : List Datum) → Out_fits (There W.is_there) (Met N types τ W S one m k F φ r) (array_of at row ds) → Out_fits (There W.is_there) (Done_with (Met N types τ W S one m k F φ r)) (done (all_fresh (array_of at row ds)))
+    new_rows k F r row ds h = done_out _ (Met N types τ W S one m k F φ r) (all_fresh (array_of at row ds)) (fresh_out _ (Met N types τ W S one m k F φ r) (array_of at row ds) h)
 
-    old_rows : (k : ℕ) (F : ℕ → ℕ) (r : Size) (row : Shape) (ds : List Datum) → Out_fits (Met N types τ W S one m k F φ r) (array_of at row ds) → Out_fits (Done_with (Met N types τ W S one m k F φ r)) (done (all_shared (array_of at row ds)))
-    old_rows k F r row ds h = done_out (Met N types τ W S one m k F φ r) (all_shared (array_of at row ds)) (shared_out (Met N types τ W S one m k F φ r) (array_of at row ds) h)
+    old_rows : (k : ℕ) (F : ℕ → ℕ) (r : Size) (row : Shape) (ds : List Datum) → Out_fits (There W.is_there) (Met N types τ W S one m k F φ r) (array_of at row ds) → Out_fits (There W.is_there) (Done_with (Met N types τ W S one m k F φ r)) (done (all_shared (array_of at row ds)))
+    old_rows k F r row ds h = done_out _ (Met N types τ W S one m k F φ r) (all_shared (array_of at row ds)) (shared_out _ (Met N types τ W S one m k F φ r) (array_of at row ds) h)
 
     -- a row
-    one_row : (F : ℕ → ℕ) (o : Out Datum) → Out_fits (Has_datum N τ m (push F φ) a) o → Out_fits (Done_with (Met N types τ W S one m 1 F φ a)) (done (and_then o shared))
-    one_row F o h = done_out (Met N types τ W S one m 1 F φ a) (and_then o shared) (shared_out (Met N types τ W S one m 1 F φ a) o (out_as (Has_datum N τ m (push F φ) a) (Met N types τ W S one m 1 F φ a) o (λ d y. no_more N types τ W S one m 1 F φ a d y) h))
+    one_row : (F : ℕ → ℕ) (o : Out Datum) → Out_fits (There W.is_there) (Has_datum N τ m (push F φ) a) o → Out_fits (There W.is_there) (Done_with (Met N types τ W S one m 1 F φ a)) (done (and_then o shared))
+    one_row F o h = done_out _ (Met N types τ W S one m 1 F φ a) (and_then o shared) (shared_out _ (Met N types τ W S one m 1 F φ a) o (out_as _ (Has_datum N τ m (push F φ) a) (Met N types τ W S one m 1 F φ a) o (λ d y. no_more N types τ W S one m 1 F φ a d y) h))
 
     pub every_row : (F : ℕ → ℕ) (ds : Datums) → Every_datum (Has_datum N τ m (push F φ) a) ds → Every (Has_datum N τ m (push F φ) a) (listed ds)
     every_row F ds h = every_listed (Has_datum N τ m (push F φ) a) ds h
 
     -- ---- of one array
 
-    reverse_job : (F : ℕ → ℕ) (told : Shape) (d : Datum) → Argument_is N types τ W S one m 1 F φ (Level (Bound 0 0) a) d → Out_fits (Done_with (Met N types τ W S one m 1 F φ (Level (Bound 0 0) a))) (job false told prim.Reverse at (d ∷ []))
+    reverse_job : (F : ℕ → ℕ) (told : Shape) (d : Datum) → Argument_is N types τ W S one m 1 F φ (Level (Bound 0 0) a) d → Out_fits (There W.is_there) (Done_with (Met N types τ W S one m 1 F φ (Level (Bound 0 0) a))) (job false told prim.Reverse at (d ∷ []))
     unfolding Has_datum Has_shape job
     reverse_job F told (Array_datum row ds) x = new_rows 1 F (Level (Bound 0 0) a) row (reverse (listed ds)) (rows_met 1 F (Bound 0 0) row (reverse (listed ds)) (length-reverse (listed ds) ∙ (x.1).0) (x.1).1 (every_reversed (Has_datum N τ m (push F φ) a) (listed ds) (every_row F ds (x.1).2)))
     reverse_job F told d x = absurd x.1
 
-    pub reverse_fits : Fits N τ W.sizing (calls W) m φ (Fun 1 (Level (Bound 0 0) a) (Level (Bound 0 0) a)) (Primitive_value prim.Reverse at no_value)
+    pub reverse_fits : Fits N τ W.sizing W.is_there (calls W) m φ (Fun 1 (Level (Bound 0 0) a) (Level (Bound 0 0) a)) (Primitive_value prim.Reverse at no_value)
     unfolding plain tells data_told primitive_tells
     reverse_fits = one_fits N types τ W S one m prim.Reverse at φ 1 (Level (Bound 0 0) a) (Level (Bound 0 0) a) data_A data_A (λ Q v h. evaluates N types τ W S one Q (Call (Primitive_value prim.Reverse at no_value) v) h) reverse_job (refl, λ dr low F h hx. hx)
 
-    indices_job : (F : ℕ → ℕ) (told : Shape) (d : Datum) → Argument_is N types τ W S one m 1 F φ (Level (Bound 0 0) a) d → Out_fits (Done_with (Met N types τ W S one m 1 F φ (Level (Bound 0 0) i64_size))) (job false told prim.Indices at (d ∷ []))
+    indices_job : (F : ℕ → ℕ) (told : Shape) (d : Datum) → Argument_is N types τ W S one m 1 F φ (Level (Bound 0 0) a) d → Out_fits (There W.is_there) (Done_with (Met N types τ W S one m 1 F φ (Level (Bound 0 0) i64_size))) (job false told prim.Indices at (d ∷ []))
     unfolding Has_datum Has_shape job
     indices_job F told (Array_datum row ds) x = (F, (λ i l. refl), array_of_rows N types τ W S one m (push F φ) (Bound 0 0) i64_size i64_shape (numbers_from (length (listed ds)) 0) (many_numbers (length (listed ds)) 0 ∙ (x.1).0) refl (numbers_are (push F φ) (length (listed ds)) 0))
     indices_job F told d x = absurd x.1
@@ -158,22 +162,22 @@ module _ (N : Names) (types : Sub) (τ : Meant) (W : World) (S : Sound N types W
     indices_shape F (Array_shape n row) hx = (hx.0, refl)
     indices_shape F h hx = absurd hx
 
-    pub indices_fits : Fits N τ W.sizing (calls W) m φ (Fun 1 (Level (Bound 0 0) a) (Level (Bound 0 0) i64_size)) (Primitive_value prim.Indices at no_value)
+    pub indices_fits : Fits N τ W.sizing W.is_there (calls W) m φ (Fun 1 (Level (Bound 0 0) a) (Level (Bound 0 0) i64_size)) (Primitive_value prim.Indices at no_value)
     unfolding plain
     indices_fits = one_fits N types τ W S one m prim.Indices at φ 1 (Level (Bound 0 0) a) (Level (Bound 0 0) i64_size) data_A (data_array (Bound 0 0) i64_size data_i64) (λ Q v h. evaluates N types τ W S one Q (Call (Primitive_value prim.Indices at no_value) v) h) indices_job (refl, λ dr low F h hx. indices_shape F h hx)
 
-    null_job : (F : ℕ → ℕ) (told : Shape) (d : Datum) → Argument_is N types τ W S one m 1 F φ (Level (Bound 0 0) a) d → Out_fits (Done_with (Met N types τ W S one m 1 F φ (scalar_size sort.Bool))) (job false told prim.Null at (d ∷ []))
+    null_job : (F : ℕ → ℕ) (told : Shape) (d : Datum) → Argument_is N types τ W S one m 1 F φ (Level (Bound 0 0) a) d → Out_fits (There W.is_there) (Done_with (Met N types τ W S one m 1 F φ (scalar_size sort.Bool))) (job false told prim.Null at (d ∷ []))
     unfolding Has_datum Has_shape job
     null_job F told (Array_datum row ds) x = (F, (λ i l. refl), refl)
     null_job F told d x = absurd x.1
 
-    pub null_fits : Fits N τ W.sizing (calls W) m φ (Fun 1 (Level (Bound 0 0) a) (scalar_size sort.Bool)) (Primitive_value prim.Null at no_value)
+    pub null_fits : Fits N τ W.sizing W.is_there (calls W) m φ (Fun 1 (Level (Bound 0 0) a) (scalar_size sort.Bool)) (Primitive_value prim.Null at no_value)
     unfolding plain tells data_told primitive_tells Has_shape Data Each
     null_fits = one_fits N types τ W S one m prim.Null at φ 1 (Level (Bound 0 0) a) (scalar_size sort.Bool) data_A tt (λ Q v h. evaluates N types τ W S one Q (Call (Primitive_value prim.Null at no_value) v) h) null_job (refl, λ dr low F h hx. refl)
 
-    head_job : (F : ℕ → ℕ) (told : Shape) (d : Datum) → Argument_is N types τ W S one m 1 F φ (Level (Bound 0 0) a) d → Out_fits (Done_with (Met N types τ W S one m 1 F φ a)) (job false told prim.Head at (d ∷ []))
+    head_job : (F : ℕ → ℕ) (told : Shape) (d : Datum) → Argument_is N types τ W S one m 1 F φ (Level (Bound 0 0) a) d → Out_fits (There W.is_there) (Done_with (Met N types τ W S one m 1 F φ a)) (job false told prim.Head at (d ∷ []))
     unfolding Has_datum Has_shape job
-    head_job F told (Array_datum row ds) x = one_row F (or_bounds at (first_of_rows (listed ds))) (first_out (Has_datum N τ m (push F φ) a) at (listed ds) (every_row F ds (x.1).2))
+    head_job F told (Array_datum row ds) x = one_row F (or_bounds at (first_of_rows (listed ds))) (first_out W.is_there (Has_datum N τ m (push F φ) a) at (listed ds) (every_row F ds (x.1).2))
     head_job F told d x = absurd x.1
 
     head_shape : (F : ℕ → ℕ) (h : Shape) → Has_shape N τ m (push F φ) (Level (Bound 0 0) a) h → Has_shape N τ m (push F φ) a (tells W.sizing {P = Ref} {B = BindId} {S = Unit {0}} (Primitive_value prim.Head at no_value) (h ∷ []))
@@ -181,13 +185,13 @@ module _ (N : Names) (types : Sub) (τ : Meant) (W : World) (S : Sound N types W
     head_shape F (Array_shape n row) hx = hx.1
     head_shape F h hx = absurd hx
 
-    pub head_fits : Fits N τ W.sizing (calls W) m φ (Fun 1 (Level (Bound 0 0) a) a) (Primitive_value prim.Head at no_value)
+    pub head_fits : Fits N τ W.sizing W.is_there (calls W) m φ (Fun 1 (Level (Bound 0 0) a) a) (Primitive_value prim.Head at no_value)
     unfolding plain
     head_fits = one_fits N types τ W S one m prim.Head at φ 1 (Level (Bound 0 0) a) a data_A data_a (λ Q v h. evaluates N types τ W S one Q (Call (Primitive_value prim.Head at no_value) v) h) head_job (refl, λ dr low F h hx. head_shape F h hx)
 
-    last_job : (F : ℕ → ℕ) (told : Shape) (d : Datum) → Argument_is N types τ W S one m 1 F φ (Level (Bound 0 0) a) d → Out_fits (Done_with (Met N types τ W S one m 1 F φ a)) (job false told prim.Last at (d ∷ []))
+    last_job : (F : ℕ → ℕ) (told : Shape) (d : Datum) → Argument_is N types τ W S one m 1 F φ (Level (Bound 0 0) a) d → Out_fits (There W.is_there) (Done_with (Met N types τ W S one m 1 F φ a)) (job false told prim.Last at (d ∷ []))
     unfolding Has_datum Has_shape job
-    last_job F told (Array_datum row ds) x = one_row F (or_bounds at (last_of (listed ds))) (last_out (Has_datum N τ m (push F φ) a) at (listed ds) (every_row F ds (x.1).2))
+    last_job F told (Array_datum row ds) x = one_row F (or_bounds at (last_of (listed ds))) (last_out W.is_there (Has_datum N τ m (push F φ) a) at (listed ds) (every_row F ds (x.1).2))
     last_job F told d x = absurd x.1
 
     last_shape : (F : ℕ → ℕ) (h : Shape) → Has_shape N τ m (push F φ) (Level (Bound 0 0) a) h → Has_shape N τ m (push F φ) a (tells W.sizing {P = Ref} {B = BindId} {S = Unit {0}} (Primitive_value prim.Last at no_value) (h ∷ []))
@@ -195,35 +199,35 @@ module _ (N : Names) (types : Sub) (τ : Meant) (W : World) (S : Sound N types W
     last_shape F (Array_shape n row) hx = hx.1
     last_shape F h hx = absurd hx
 
-    pub last_fits : Fits N τ W.sizing (calls W) m φ (Fun 1 (Level (Bound 0 0) a) a) (Primitive_value prim.Last at no_value)
+    pub last_fits : Fits N τ W.sizing W.is_there (calls W) m φ (Fun 1 (Level (Bound 0 0) a) a) (Primitive_value prim.Last at no_value)
     unfolding plain
     last_fits = one_fits N types τ W S one m prim.Last at φ 1 (Level (Bound 0 0) a) a data_A data_a (λ Q v h. evaluates N types τ W S one Q (Call (Primitive_value prim.Last at no_value) v) h) last_job (refl, λ dr low F h hx. last_shape F h hx)
 
-    init_job : (F : ℕ → ℕ) (told : Shape) (d : Datum) → Argument_is N types τ W S one m 1 F φ (Level (Bound 0 0) a) d → Out_fits (Done_with (Met N types τ W S one m 1 F φ (Level (Bound 0 2) a))) (job false told prim.Init at (d ∷ []))
+    init_job : (F : ℕ → ℕ) (told : Shape) (d : Datum) → Argument_is N types τ W S one m 1 F φ (Level (Bound 0 0) a) d → Out_fits (There W.is_there) (Done_with (Met N types τ W S one m 1 F φ (Level (Bound 0 2) a))) (job false told prim.Init at (d ∷ []))
     unfolding Has_datum Has_shape job
-    init_job F told (Array_datum row ds) x = checked_out (Done_with (Met N types τ W S one m 1 F φ (Level (Bound 0 2) a))) (not (nat_eq (length (listed ds)) 0)) kind.Bounds at (some_rows at row (all_but_last (listed ds)))
+    init_job F told (Array_datum row ds) x = checked_out _ (Done_with (Met N types τ W S one m 1 F φ (Level (Bound 0 2) a))) (not (nat_eq (length (listed ds)) 0)) kind.Bounds at (out_of_bounds W.is_there at) (some_rows at row (all_but_last (listed ds)))
         (old_rows 1 F (Level (Bound 0 2) a) row (all_but_last (listed ds)) (some_met 1 F row (all_but_last (listed ds)) (x.1).1 (every_but_last (Has_datum N τ m (push F φ) a) (listed ds) (every_row F ds (x.1).2))))
     init_job F told d x = absurd x.1
 
-    pub init_fits : Fits N τ W.sizing (calls W) m φ (Fun 1 (Level (Bound 0 0) a) (Level (Bound 0 2) a)) (Primitive_value prim.Init at no_value)
+    pub init_fits : Fits N τ W.sizing W.is_there (calls W) m φ (Fun 1 (Level (Bound 0 0) a) (Level (Bound 0 2) a)) (Primitive_value prim.Init at no_value)
     unfolding plain Each
     init_fits = one_fits N types τ W S one m prim.Init at φ 1 (Level (Bound 0 0) a) (Level (Bound 0 2) a) data_A (data_array (Bound 0 2) a data_a) (λ Q v h. evaluates N types τ W S one Q (Call (Primitive_value prim.Init at no_value) v) h) init_job (refl, λ dr low. absurd (let l = low.0 refl in omega (arith, l)))
 
-    tail_job : (F : ℕ → ℕ) (told : Shape) (d : Datum) → Argument_is N types τ W S one m 1 F φ (Level (Bound 0 0) a) d → Out_fits (Done_with (Met N types τ W S one m 1 F φ (Level (Bound 0 2) a))) (job false told prim.Tail at (d ∷ []))
+    tail_job : (F : ℕ → ℕ) (told : Shape) (d : Datum) → Argument_is N types τ W S one m 1 F φ (Level (Bound 0 0) a) d → Out_fits (There W.is_there) (Done_with (Met N types τ W S one m 1 F φ (Level (Bound 0 2) a))) (job false told prim.Tail at (d ∷ []))
     unfolding Has_datum Has_shape job
-    tail_job F told (Array_datum row ds) x = checked_out (Done_with (Met N types τ W S one m 1 F φ (Level (Bound 0 2) a))) (not (nat_eq (length (listed ds)) 0)) kind.Bounds at (some_rows at row (drop 1 (listed ds)))
+    tail_job F told (Array_datum row ds) x = checked_out _ (Done_with (Met N types τ W S one m 1 F φ (Level (Bound 0 2) a))) (not (nat_eq (length (listed ds)) 0)) kind.Bounds at (out_of_bounds W.is_there at) (some_rows at row (drop 1 (listed ds)))
         (old_rows 1 F (Level (Bound 0 2) a) row (drop 1 (listed ds)) (some_met 1 F row (drop 1 (listed ds)) (x.1).1 (every_dropped (Has_datum N τ m (push F φ) a) 1 (listed ds) (every_row F ds (x.1).2))))
     tail_job F told d x = absurd x.1
 
-    pub tail_fits : Fits N τ W.sizing (calls W) m φ (Fun 1 (Level (Bound 0 0) a) (Level (Bound 0 2) a)) (Primitive_value prim.Tail at no_value)
+    pub tail_fits : Fits N τ W.sizing W.is_there (calls W) m φ (Fun 1 (Level (Bound 0 0) a) (Level (Bound 0 2) a)) (Primitive_value prim.Tail at no_value)
     unfolding plain Each
     tail_fits = one_fits N types τ W S one m prim.Tail at φ 1 (Level (Bound 0 0) a) (Level (Bound 0 2) a) data_A (data_array (Bound 0 2) a data_a) (λ Q v h. evaluates N types τ W S one Q (Call (Primitive_value prim.Tail at no_value) v) h) tail_job (refl, λ dr low. absurd (let l = low.0 refl in omega (arith, l)))
 
-    copy_job : (F : ℕ → ℕ) (told : Shape) (d : Datum) → Argument_is N types τ W S one m 0 F φ a d → Out_fits (Done_with (Met N types τ W S one m 0 F φ a)) (job false told prim.Copy at (d ∷ []))
+    copy_job : (F : ℕ → ℕ) (told : Shape) (d : Datum) → Argument_is N types τ W S one m 0 F φ a d → Out_fits (There W.is_there) (Done_with (Met N types τ W S one m 0 F φ a)) (job false told prim.Copy at (d ∷ []))
     unfolding job
     copy_job F told d x = (F, (λ i l. refl), x.1)
 
-    pub copy_fits : Fits N τ W.sizing (calls W) m φ (Fun 0 a a) (Primitive_value prim.Copy at no_value)
+    pub copy_fits : Fits N τ W.sizing W.is_there (calls W) m φ (Fun 0 a a) (Primitive_value prim.Copy at no_value)
     unfolding plain tells data_told primitive_tells
     copy_fits = one_fits N types τ W S one m prim.Copy at φ 0 a a data_a data_a (λ Q v h. evaluates N types τ W S one Q (Call (Primitive_value prim.Copy at no_value) v) h) copy_job (refl, λ dr low F h hx. hx)
 
@@ -233,49 +237,49 @@ module _ (N : Names) (types : Sub) (τ : Meant) (W : World) (S : Sound N types W
     data_B = data_array (Bound 0 0) a data_a
 
     -- a number of rows is worth what the argument is
-    pub counted_worth : (F : ℕ → ℕ) (v : FlatValue) → F 0 ≡ word v → Fits N τ W.sizing (calls W) m (push F φ) i64_size v → count (worth_of v) ≡ F 0
+    pub counted_worth : (F : ℕ → ℕ) (v : FlatValue) → F 0 ≡ word v → Fits N τ W.sizing W.is_there (calls W) m (push F φ) i64_size v → count (worth_of v) ≡ F 0
     unfolding Fits word
     counted_worth F (Scalar_value (scalar.Int t n)) e h = sym e
     counted_worth F (Scalar_value (scalar.Bool c)) e h = absurd (let z : sort.Bool ≡ sort.Int I64 = h in cc)
     counted_worth F v e h = absurd h
 
-    take_job : (F G : ℕ → ℕ) (told : Shape) (d e : Datum) → Argument_is N types τ W S one m 0 F φ i64_size d → Argument_is N types τ W S one m 1 G (push F φ) (Level (Bound 0 0) a) e → Out_fits (Done_with (Met N types τ W S one m 1 G (push F φ) (Level (Bound 0 2) a))) (job false told prim.Take at (d ∷ e ∷ []))
+    take_job : (F G : ℕ → ℕ) (told : Shape) (d e : Datum) → Argument_is N types τ W S one m 0 F φ i64_size d → Argument_is N types τ W S one m 1 G (push F φ) (Level (Bound 0 0) a) e → Out_fits (There W.is_there) (Done_with (Met N types τ W S one m 1 G (push F φ) (Level (Bound 0 2) a))) (job false told prim.Take at (d ∷ e ∷ []))
     unfolding Has_datum Has_shape job push word
     take_job F G told (Scalar_datum (scalar.Int t n)) (Array_datum row ds) x y = rows_counted (integer_of t n)
       where
-        rows_counted : (z : ℤ) → Out_fits (Done_with (Met N types τ W S one m 1 G (push F φ) (Level (Bound 0 2) a))) (counted_rows at z (row, listed ds) (λ k. take k (listed ds)))
-        rows_counted (negsuc k) = tt
-        rows_counted (pos k) = checked_out (Done_with (Met N types τ W S one m 1 G (push F φ) (Level (Bound 0 2) a))) (nat_le k (length (listed ds))) kind.Bounds at (some_rows at row (take k (listed ds)))
+        rows_counted : (z : ℤ) → Out_fits (There W.is_there) (Done_with (Met N types τ W S one m 1 G (push F φ) (Level (Bound 0 2) a))) (counted_rows at z (row, listed ds) (λ k. take k (listed ds)))
+        rows_counted (negsuc k) = out_of_bounds W.is_there at
+        rows_counted (pos k) = checked_out _ (Done_with (Met N types τ W S one m 1 G (push F φ) (Level (Bound 0 2) a))) (nat_le k (length (listed ds))) kind.Bounds at (out_of_bounds W.is_there at) (some_rows at row (take k (listed ds)))
             (old_rows a data_a closed_a at (push F φ) 1 G (Level (Bound 0 2) a) row (take k (listed ds)) (some_met a data_a closed_a at (push F φ) 1 G row (take k (listed ds)) (y.1).1 (every_taken (Has_datum N τ m (push G (push F φ)) a) k (listed ds) (every_row a data_a closed_a at (push F φ) G ds (y.1).2))))
     take_job F G told (Scalar_datum (scalar.Bool c)) e x y = tt
     take_job F G told (Scalar_datum (scalar.Int t n)) e x y = absurd y.1
     take_job F G told d e x y = absurd x.1
 
-    pub take_fits : Fits N τ W.sizing (calls W) m φ (Fun 0 i64_size (Fun 1 (Level (Bound 0 0) a) (Level (Bound 0 2) a))) (Primitive_value prim.Take at no_value)
+    pub take_fits : Fits N τ W.sizing W.is_there (calls W) m φ (Fun 0 i64_size (Fun 1 (Level (Bound 0 0) a) (Level (Bound 0 2) a))) (Primitive_value prim.Take at no_value)
     unfolding plain Each Known_result Chosen_in
     take_fits = two_fits N types τ W S one m prim.Take at φ 0 1 i64_size (Level (Bound 0 0) a) (Level (Bound 0 2) a) data_i64 data_B (data_array (Bound 0 2) a data_a)
         (λ Q v h. evaluates N types τ W S one Q (Call (Primitive_value prim.Take at no_value) v) h) (λ Q v w h. evaluates N types τ W S one Q (Call (Primitive_value prim.Take at (value_and v no_value)) w) h) take_job
         (λ known F h hh G g hg. absurd (let l = known.1.0 in omega (arith, l))) (λ F v e h. (refl, λ dr low. absurd (let l = low.0 refl in omega (arith, l))))
 
-    drop_job : (F G : ℕ → ℕ) (told : Shape) (d e : Datum) → Argument_is N types τ W S one m 0 F φ i64_size d → Argument_is N types τ W S one m 1 G (push F φ) (Level (Bound 0 0) a) e → Out_fits (Done_with (Met N types τ W S one m 1 G (push F φ) (Level (Bound 0 2) a))) (job false told prim.Drop at (d ∷ e ∷ []))
+    drop_job : (F G : ℕ → ℕ) (told : Shape) (d e : Datum) → Argument_is N types τ W S one m 0 F φ i64_size d → Argument_is N types τ W S one m 1 G (push F φ) (Level (Bound 0 0) a) e → Out_fits (There W.is_there) (Done_with (Met N types τ W S one m 1 G (push F φ) (Level (Bound 0 2) a))) (job false told prim.Drop at (d ∷ e ∷ []))
     unfolding Has_datum Has_shape job push word
     drop_job F G told (Scalar_datum (scalar.Int t n)) (Array_datum row ds) x y = rows_counted (integer_of t n)
       where
-        rows_counted : (z : ℤ) → Out_fits (Done_with (Met N types τ W S one m 1 G (push F φ) (Level (Bound 0 2) a))) (counted_rows at z (row, listed ds) (λ k. drop k (listed ds)))
-        rows_counted (negsuc k) = tt
-        rows_counted (pos k) = checked_out (Done_with (Met N types τ W S one m 1 G (push F φ) (Level (Bound 0 2) a))) (nat_le k (length (listed ds))) kind.Bounds at (some_rows at row (drop k (listed ds)))
+        rows_counted : (z : ℤ) → Out_fits (There W.is_there) (Done_with (Met N types τ W S one m 1 G (push F φ) (Level (Bound 0 2) a))) (counted_rows at z (row, listed ds) (λ k. drop k (listed ds)))
+        rows_counted (negsuc k) = out_of_bounds W.is_there at
+        rows_counted (pos k) = checked_out _ (Done_with (Met N types τ W S one m 1 G (push F φ) (Level (Bound 0 2) a))) (nat_le k (length (listed ds))) kind.Bounds at (out_of_bounds W.is_there at) (some_rows at row (drop k (listed ds)))
             (old_rows a data_a closed_a at (push F φ) 1 G (Level (Bound 0 2) a) row (drop k (listed ds)) (some_met a data_a closed_a at (push F φ) 1 G row (drop k (listed ds)) (y.1).1 (every_dropped (Has_datum N τ m (push G (push F φ)) a) k (listed ds) (every_row a data_a closed_a at (push F φ) G ds (y.1).2))))
     drop_job F G told (Scalar_datum (scalar.Bool c)) e x y = tt
     drop_job F G told (Scalar_datum (scalar.Int t n)) e x y = absurd y.1
     drop_job F G told d e x y = absurd x.1
 
-    pub drop_fits : Fits N τ W.sizing (calls W) m φ (Fun 0 i64_size (Fun 1 (Level (Bound 0 0) a) (Level (Bound 0 2) a))) (Primitive_value prim.Drop at no_value)
+    pub drop_fits : Fits N τ W.sizing W.is_there (calls W) m φ (Fun 0 i64_size (Fun 1 (Level (Bound 0 0) a) (Level (Bound 0 2) a))) (Primitive_value prim.Drop at no_value)
     unfolding plain Each Known_result Chosen_in
     drop_fits = two_fits N types τ W S one m prim.Drop at φ 0 1 i64_size (Level (Bound 0 0) a) (Level (Bound 0 2) a) data_i64 data_B (data_array (Bound 0 2) a data_a)
         (λ Q v h. evaluates N types τ W S one Q (Call (Primitive_value prim.Drop at no_value) v) h) (λ Q v w h. evaluates N types τ W S one Q (Call (Primitive_value prim.Drop at (value_and v no_value)) w) h) drop_job
         (λ known F h hh G g hg. absurd (let l = known.1.0 in omega (arith, l))) (λ F v e h. (refl, λ dr low. absurd (let l = low.0 refl in omega (arith, l))))
 
-    rotate_job : (F G : ℕ → ℕ) (told : Shape) (d e : Datum) → Argument_is N types τ W S one m 0 F φ i64_size d → Argument_is N types τ W S one m 1 G (push F φ) (Level (Bound 0 0) a) e → Out_fits (Done_with (Met N types τ W S one m 1 G (push F φ) (Level (Bound 0 0) a))) (job false told prim.Rotate at (d ∷ e ∷ []))
+    rotate_job : (F G : ℕ → ℕ) (told : Shape) (d e : Datum) → Argument_is N types τ W S one m 0 F φ i64_size d → Argument_is N types τ W S one m 1 G (push F φ) (Level (Bound 0 0) a) e → Out_fits (There W.is_there) (Done_with (Met N types τ W S one m 1 G (push F φ) (Level (Bound 0 0) a))) (job false told prim.Rotate at (d ∷ e ∷ []))
     unfolding Has_datum Has_shape job push word
     rotate_job F G told (Scalar_datum (scalar.Int t n)) (Array_datum row ds) x y =
         let k : ℕ = unsigned_abs (int_rem_euclid (integer_of t n) (pos (length (listed ds)))) in
@@ -285,24 +289,24 @@ module _ (N : Names) (types : Sub) (τ : Meant) (W : World) (S : Sound N types W
     rotate_job F G told (Scalar_datum (scalar.Int t n)) e x y = absurd y.1
     rotate_job F G told d e x y = absurd x.1
 
-    pub rotate_fits : Fits N τ W.sizing (calls W) m φ (Fun 0 i64_size (Fun 1 (Level (Bound 0 0) a) (Level (Bound 0 0) a))) (Primitive_value prim.Rotate at no_value)
+    pub rotate_fits : Fits N τ W.sizing W.is_there (calls W) m φ (Fun 0 i64_size (Fun 1 (Level (Bound 0 0) a) (Level (Bound 0 0) a))) (Primitive_value prim.Rotate at no_value)
     unfolding plain primitive_tells
     rotate_fits = two_fits N types τ W S one m prim.Rotate at φ 0 1 i64_size (Level (Bound 0 0) a) (Level (Bound 0 0) a) data_i64 data_B data_B
         (λ Q v h. evaluates N types τ W S one Q (Call (Primitive_value prim.Rotate at no_value) v) h) (λ Q v w h. evaluates N types τ W S one Q (Call (Primitive_value prim.Rotate at (value_and v no_value)) w) h) rotate_job
         (λ known F h hh G g hg. hg) (λ F v e h. second_tells N types τ W S one m prim.Rotate at (push F φ) 1 i64_size (Level (Bound 0 0) a) (Level (Bound 0 0) a) v data_i64 h (λ G h g hh hg. hg) data_B)
 
-    replicate_job : (F G : ℕ → ℕ) (told : Shape) (d e : Datum) → Argument_is N types τ W S one m 0 F φ i64_size d → Argument_is N types τ W S one m 0 G (push F φ) a e → Out_fits (Done_with (Met N types τ W S one m 0 G (push F φ) (Level (Bound 1 0) a))) (job false told prim.Replicate at (d ∷ e ∷ []))
+    replicate_job : (F G : ℕ → ℕ) (told : Shape) (d e : Datum) → Argument_is N types τ W S one m 0 F φ i64_size d → Argument_is N types τ W S one m 0 G (push F φ) a e → Out_fits (There W.is_there) (Done_with (Met N types τ W S one m 0 G (push F φ) (Level (Bound 1 0) a))) (job false told prim.Replicate at (d ∷ e ∷ []))
     unfolding Has_datum Has_shape job push word
     replicate_job F G told (Scalar_datum (scalar.Int t n)) e x y = repeated (integer_of t n) x.0
       where
-        repeated : (z : ℤ) → F 0 ≡ count_of z → Out_fits (Done_with (Met N types τ W S one m 0 G (push F φ) (Level (Bound 1 0) a))) (sized at z (λ k. of_weight at (Array_shape k (shape_of e)) (done (fresh (Array_datum (shape_of e) (datums (replicate k e)))))))
-        repeated (negsuc k) q = tt
-        repeated (pos k) q = checked_out (Done_with (Met N types τ W S one m 0 G (push F φ) (Level (Bound 1 0) a))) (nat_le (weight (Array_shape k (shape_of e))) most_words) kind.TooLarge at (done (fresh (Array_datum (shape_of e) (datums (replicate k e)))))
+        repeated : (z : ℤ) → F 0 ≡ count_of z → Out_fits (There W.is_there) (Done_with (Met N types τ W S one m 0 G (push F φ) (Level (Bound 1 0) a))) (sized at z (λ k. of_weight at (Array_shape k (shape_of e)) (done (fresh (Array_datum (shape_of e) (datums (replicate k e)))))))
+        repeated (negsuc k) q = bad_range W.is_there at
+        repeated (pos k) q = checked_out _ (Done_with (Met N types τ W S one m 0 G (push F φ) (Level (Bound 1 0) a))) (nat_le (weight (Array_shape k (shape_of e))) most_words) kind.TooLarge at (too_large W.is_there at) (done (fresh (Array_datum (shape_of e) (datums (replicate k e)))))
             (G, (λ i l. refl), array_of_rows N types τ W S one m (push G (push F φ)) (Bound 1 0) a (shape_of e) (replicate k e) (length-replicate k e ∙ sym q) (datum_shaped N τ m (push G (push F φ)) a e y.1) (every_repeated (Has_datum N τ m (push G (push F φ)) a) k e y.1))
     replicate_job F G told (Scalar_datum (scalar.Bool c)) e x y = tt
     replicate_job F G told d e x y = absurd x.1
 
-    pub replicate_fits : Fits N τ W.sizing (calls W) m φ (Fun 0 i64_size (Fun 0 a (Level (Bound 1 0) a))) (Primitive_value prim.Replicate at no_value)
+    pub replicate_fits : Fits N τ W.sizing W.is_there (calls W) m φ (Fun 0 i64_size (Fun 0 a (Level (Bound 1 0) a))) (Primitive_value prim.Replicate at no_value)
     unfolding plain primitive_tells Has_shape push Each Known_result Chosen_in
     replicate_fits = two_fits N types τ W S one m prim.Replicate at φ 0 0 i64_size a (Level (Bound 1 0) a) data_i64 data_a (data_array (Bound 1 0) a data_a)
         (λ Q v h. evaluates N types τ W S one Q (Call (Primitive_value prim.Replicate at no_value) v) h) (λ Q v w h. evaluates N types τ W S one Q (Call (Primitive_value prim.Replicate at (value_and v no_value)) w) h) replicate_job
@@ -323,23 +327,22 @@ module _ (N : Names) (types : Sub) (τ : Meant) (W : World) (S : Sound N types W
         tested true false = y
         tested false c = x
 
-    pub fitting_out : (P : Job → Type 0) (b : Bool) (o : Out Job) → Out_fits P o → Out_fits P (fitting false b at o)
-    fitting_out P true o h = h
-    fitting_out P false o h = tt
+    pub fitting_out : (P : Job → Type 0) (b : Bool) (o : Out Job) → b ≡ true → Out_fits (There W.is_there) P o → Out_fits (There W.is_there) P (fitting false b at o)
+    fitting_out P b o e h = subst (λ z. Out_fits (There W.is_there) P z) (sym (fits_here false b at o e)) h
 
-    concat_job : (F G : ℕ → ℕ) (told : Shape) (d e : Datum) → Argument_is N types τ W S one m 1 F φ (Level (Bound 0 0) a) d → Argument_is N types τ W S one m 1 G (push F φ) (Level (Bound 0 0) a) e → Out_fits (Done_with (Met N types τ W S one m 1 G (push F φ) (Level (Bound 0 2) a))) (job false told prim.Concat at (d ∷ e ∷ []))
+    concat_job : (F G : ℕ → ℕ) (told : Shape) (d e : Datum) → Argument_is N types τ W S one m 1 F φ (Level (Bound 0 0) a) d → Argument_is N types τ W S one m 1 G (push F φ) (Level (Bound 0 0) a) e → Out_fits (There W.is_there) (Done_with (Met N types τ W S one m 1 G (push F φ) (Level (Bound 0 2) a))) (job false told prim.Concat at (d ∷ e ∷ []))
     unfolding Has_datum Has_shape job push word
     concat_job F G told (Array_datum row ds) (Array_datum row' es) x y =
         let h : Has_shape N τ m (push G (push F φ)) a row = shape_anywhere N types τ W S one m a closed_a (push F φ) (push G (push F φ)) row (x.1).1 in
         let front : Every (Has_datum N τ m (push G (push F φ)) a) (listed ds) = every_as (Has_datum N τ m (push F φ) a) (Has_datum N τ m (push G (push F φ)) a) (λ d z. datum_anywhere N types τ W S one m a closed_a (push F φ) (push G (push F φ)) d z) (listed ds) (every_row a data_a closed_a at φ F ds (x.1).2) in
-        fitting_out (Done_with (Met N types τ W S one m 1 G (push F φ) (Level (Bound 0 2) a))) (shown_to_agree (row, listed ds) (row', listed es)) (done (all_fresh (array_of at (either_row (row, listed ds) (row', listed es)) (listed ds ++ listed es))))
+        fitting_out (Done_with (Met N types τ W S one m 1 G (push F φ) (Level (Bound 0 2) a))) (shown_to_agree (row, listed ds) (row', listed es)) (done (all_fresh (array_of at (either_row (row, listed ds) (row', listed es)) (listed ds ++ listed es)))) (shown_same (row, listed ds) (row', listed es) (shape_alone N τ m (push G (push F φ)) a row row' h (y.1).1))
         (new_rows a data_a closed_a at (push F φ) 1 G (Level (Bound 0 2) a) (either_row (row, listed ds) (row', listed es)) (listed ds ++ listed es)
         (some_met a data_a closed_a at (push F φ) 1 G (either_row (row, listed ds) (row', listed es)) (listed ds ++ listed es) (either_shape (push G (push F φ)) row row' (listed ds) (listed es) h (y.1).1)
         (every_both (Has_datum N τ m (push G (push F φ)) a) (listed ds) (listed es) front (every_row a data_a closed_a at (push F φ) G es (y.1).2))))
     concat_job F G told (Array_datum row ds) e x y = absurd y.1
     concat_job F G told d e x y = absurd x.1
 
-    pub concat_fits : Fits N τ W.sizing (calls W) m φ (Fun 1 (Level (Bound 0 0) a) (Fun 1 (Level (Bound 0 0) a) (Level (Bound 0 2) a))) (Primitive_value prim.Concat at no_value)
+    pub concat_fits : Fits N τ W.sizing W.is_there (calls W) m φ (Fun 1 (Level (Bound 0 0) a) (Fun 1 (Level (Bound 0 0) a) (Level (Bound 0 2) a))) (Primitive_value prim.Concat at no_value)
     unfolding plain Each Known_result Chosen_in
     concat_fits = two_fits N types τ W S one m prim.Concat at φ 1 1 (Level (Bound 0 0) a) (Level (Bound 0 0) a) (Level (Bound 0 2) a) data_B data_B (data_array (Bound 0 2) a data_a)
         (λ Q v h. evaluates N types τ W S one Q (Call (Primitive_value prim.Concat at no_value) v) h) (λ Q v w h. evaluates N types τ W S one Q (Call (Primitive_value prim.Concat at (value_and v no_value)) w) h) concat_job

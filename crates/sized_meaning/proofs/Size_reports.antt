@@ -1,5 +1,8 @@
 -- Where what does not fit goes wrong, sizes are reported by `:>` and `unflatten` alone: each way to put parts together keeps this, and so
 -- does each form.
+use Rattle.sized_meaning.specs.There.{There}
+use Rattle.sized_meaning.specs.Fits.{Gives}
+use Rattle.sized_meaning.proofs.Outcomes.{gives_exact, gives_then, gives_both}
 use Rattle.std.specs.Prelude.{Option, Some, None, Result, Ok, Err, decimal}
 use Rattle.std.specs.Str.{bytes_eq}
 use Rattle.std.proofs.Common.{◌≡◌, ◌⊎◌, inl, inr, ℕ, zero, suc, ◌+◌, ◌-◌, ◌++◌, List, [], ◌∷◌, Bool, true, false, cond, length, nat_lt, nat_eq}
@@ -32,63 +35,47 @@ use Rattle.fut_meaning.specs.Jobs.{Job, Done, Apply_each, Reduce_each, Choose_ea
 use Rattle.fut_meaning.specs.Meaning.{Lang, unrestricted, row_told, fits_type, Of_literal, Of_function, counts, placed, under, called, called_on, no_function, job_of, runs, given, first_node, call, looped, step, Means, Ever, ever}
 use Rattle.fut_meaning.specs.Operations.{report, named_values, with_name, reported, truth_result, equal_scalars, both_hold, making, is_of_scalars, equal, all_equal, fields_equal, on_scalars, on_scalar, binary_value, operate, operated_by, coerced, operated, primitive_use, primitive, parameters_of, arity}
 use Rattle.fut_meaning.specs.Operators.{binary_result, unary_result}
-use Rattle.fut_meaning.specs.Outcomes.{Out, Val, Fail, Wrong, and_then, Rel, the, Exactly, exact, Then, goes_on, stops, sticks, Both, both, stops_left, stops_right, sticks_left, sticks_right, choose, each_of, turns, while_turns, Tree, element, neutral, node, tree_gives, bracket}
+use Rattle.fut_meaning.specs.Outcomes.{Out, Val, Fail, Wrong, and_then, Rel, the, Then, choose, each_of, turns, while_turns, Tree, element, neutral, node, tree_gives, bracket}
 use Rattle.fut_meaning.specs.Programs.{Seen, seeing, below_names, top, evaluated, applied_to}
 use Rattle.fut_meaning.specs.Telling.{is_function, size_value}
 use Rattle.fut_meaning.specs.Values.{Scalar_value, Tuple_value, Record_value, Array_value, Closure, Primitive_value, no_value, value_and, no_field, field_and, base, bind, entered, Evaluate, Call, Meanings, listed, is_before, values, with_field, fields, field, replaced}
 use Rattle.fut_meaning.proofs.FittingForms.{fitted_loses_nothing}
 use Rattle.fut_meaning.proofs.Safe.{Every}
 use Rattle.sized_meaning.specs.Fits.{FlatValues, FlatFields}
+use Rattle.sized_meaning.specs.There.{There, Primitive_there, Use_there, Operation_there, Term_there, Terms_there, Turns_there}
 use Rattle.sized_meaning.specs.Law.{FlatTask}
-use Rattle.sized_meaning.specs.Reports.{Primitive_there, Use_there, Operation_there, Term_there, Terms_there, Turns_there, Value_there, Values_there, Fields_there, Env_there, Definitions_there, Arguments_there, SizesAreReportedThere, OtherSizesMisfit}
-use Rattle.sized_meaning.proofs.Reporting.{There, Out_there, Fine, out_then, fine_then, rows_fine, scalars_fine, made_fine, Job_there, job_there}
+use Rattle.sized_meaning.specs.Reports.{Value_there, Values_there, Fields_there, Env_there, Definitions_there, Arguments_there, SizesAreReportedThere, OtherSizesMisfit}
+use Rattle.sized_meaning.proofs.Reporting.{Out_there, Fine, out_then, fine_then, rows_fine, scalars_fine, made_fine, Job_there, job_there}
 
 module _ (is_there : Place → Bool) where
   -- ---- ways to put parts together
 
   abbrev pub Blames : {A : Type 0} → (A → Type 0) → Rel A → Type 0
-  Blames {A} P m = (o : Out A) (f : ℕ) → m o f → Out_there is_there P o
+  Blames {A} P m = Gives (There is_there) P m
 
   abbrev pub Blameless : {A : Type 0} → Rel A → Type 0
   Blameless m = Blames (λ a. Unit {0}) m
 
-  pub blames_exact : {A : Type 0} (P : A → Type 0) (n : ℕ) (o : Out A) → Out_there is_there P o → Blames P (Exactly n o)
-  blames_exact P n o h _ _ exact = h
-
-  module _ {A B : Type 0} (P : A → Type 0) (Q : B → Type 0) (m : Rel A) (k : A → Rel B) (h : Blames P m) (l : (a : A) → P a → Blames Q (k a)) where
-    pub blames_then : Blames Q (Then m k)
-    blames_then _ _ (goes_on {a} {o} {f} {g} x y) = l a (h (Val a) f x) o g y
-    blames_then _ _ (stops {r} {f} x) = h (Fail r) f x
-    blames_then _ _ (sticks {f} x) = tt
-
   pub after : {A B : Type 0} (P : A → Type 0) (Q : B → Type 0) (o : Out A) (k : A → Rel B) → Out_there is_there P o → ((a : A) → P a → Blames Q (k a)) → Blames Q (Then (the o) k)
-  after P Q o k h l = blames_then P Q (the o) k (blames_exact P 0 o h) l
-
-  module _ {A B C : Type 0} (P : A → Type 0) (Q : B → Type 0) (R : C → Type 0) (m : Rel A) (n : Rel B) (k : A → B → Rel C) (h : Blames P m) (i : Blames Q n) (l : (a : A) (b : B) → P a → Q b → Blames R (k a b)) where
-    blames_both : Blames R (Both m n k)
-    blames_both _ _ (both {a} {b} {o} {f} {g} {h = e} x y z) = l a b (h (Val a) f x) (i (Val b) g y) o e z
-    blames_both _ _ (stops_left {r} {f} x) = h (Fail r) f x
-    blames_both _ _ (stops_right {r} {f} x) = i (Fail r) f x
-    blames_both _ _ (sticks_left {f} x) = tt
-    blames_both _ _ (sticks_right {f} x) = tt
+  after P Q o k h l = gives_then P Q (the o) k (gives_exact (There is_there) P 0 o h) l
 
   blames_choose : {A : Type 0} (P : A → Type 0) (b : Bool) (m n : Rel A) → Blames P m → Blames P n → Blames P (choose b m n)
   blames_choose P true m n h i = h
   blames_choose P false m n h i = i
 
   blames_each : {A B : Type 0} (P : A → Type 0) (Q : B → Type 0) (g : A → Rel B) → ((a : A) → P a → Blames Q (g a)) → (xs : List A) → Every P xs → Blames (Every Q) (each_of g xs)
-  blames_each P Q g h [] e = blames_exact (Every Q) 0 (Val []) tt
+  blames_each P Q g h [] e = gives_exact (There is_there) (Every Q) 0 (Val []) tt
   blames_each P Q g h (x ∷ xs) e =
-      blames_then Q (Every Q) _ _ (h x e.0) (λ y q. blames_then (Every Q) (Every Q) _ _ (blames_each P Q g h xs e.1) (λ ys qs. blames_exact (Every Q) 0 (Val (y ∷ ys)) (q, qs)))
+      gives_then Q (Every Q) _ _ (h x e.0) (λ y q. gives_then (Every Q) (Every Q) _ _ (blames_each P Q g h xs e.1) (λ ys qs. gives_exact (There is_there) (Every Q) 0 (Val (y ∷ ys)) (q, qs)))
 
   blames_turns : {A B : Type 0} (P : A → Type 0) (Q : B → Type 0) (g : A → B → Rel B) → ((a : A) (b : B) → P a → Q b → Blames Q (g a b)) → (xs : List A) (b : B) → Every P xs → Q b → Blames Q (turns g xs b)
-  blames_turns P Q g h [] b e q = blames_exact Q 0 (Val b) q
-  blames_turns P Q g h (x ∷ xs) b e q = blames_then Q Q _ _ (h x b e.0 q) (λ c r. blames_turns P Q g h xs c e.1 r)
+  blames_turns P Q g h [] b e q = gives_exact (There is_there) Q 0 (Val b) q
+  blames_turns P Q g h (x ∷ xs) b e q = gives_then Q Q _ _ (h x b e.0 q) (λ c r. blames_turns P Q g h xs c e.1 r)
 
   blames_while : {B : Type 0} (Q : B → Type 0) (budget : ℕ) (r : Report) (test : B → Rel Bool) (body : B → Rel B) → There is_there r → ((b : B) → Q b → Blameless (test b)) → ((b : B) → Q b → Blames Q (body b)) → (b : B) → Q b → Blames Q (while_turns budget r test body b)
-  blames_while Q zero r test body t ht hb b q = blames_then (λ a. Unit {0}) Q _ _ (ht b q) (λ holds u. blames_choose Q holds _ _ (blames_exact Q 0 (Fail r) t) (blames_exact Q 0 (Val b) q))
+  blames_while Q zero r test body t ht hb b q = gives_then (λ a. Unit {0}) Q _ _ (ht b q) (λ holds u. blames_choose Q holds _ _ (gives_exact (There is_there) Q 0 (Fail r) t) (gives_exact (There is_there) Q 0 (Val b) q))
   blames_while Q (suc budget) r test body t ht hb b q =
-      blames_then (λ a. Unit {0}) Q _ _ (ht b q) (λ holds u. blames_choose Q holds _ _ (blames_then Q Q _ _ (hb b q) (λ c w. blames_while Q budget r test body t ht hb c w)) (blames_exact Q 0 (Val b) q))
+      gives_then (λ a. Unit {0}) Q _ _ (ht b q) (λ holds u. blames_choose Q holds _ _ (gives_then Q Q _ _ (hb b q) (λ c w. blames_while Q budget r test body t ht hb c w)) (gives_exact (There is_there) Q 0 (Val b) q))
 
   every_any : {A : Type 0} (xs : List A) → Every (λ x. Unit {0}) xs
   every_any [] = tt
@@ -97,13 +84,13 @@ module _ (is_there : Place → Bool) where
   -- ---- what is made of data
 
   blames_all : {A B : Type 0} (g : A → Rel B) → ((a : A) → Blameless (g a)) → (xs : List A) → Blameless (all_of g xs)
-  blames_all g h [] = blames_exact _ 0 (Val []) tt
-  blames_all g h (x ∷ xs) = blames_both _ _ _ (g x) (all_of g xs) _ (h x) (blames_all g h xs) (λ y ys u w. blames_exact _ 0 (Val (y ∷ ys)) tt)
+  blames_all g h [] = gives_exact (There is_there) _ 0 (Val []) tt
+  blames_all g h (x ∷ xs) = gives_both _ _ _ (g x) (all_of g xs) _ (h x) (blames_all g h xs) (λ y ys u w. gives_exact (There is_there) _ 0 (Val (y ∷ ys)) tt)
 
   blames_tree : {A : Type 0} (op : A → A → Rel A) (ne : A) → ((a b : A) → Blameless (op a b)) → (t : Tree A) → Blameless (tree_gives op ne t)
-  blames_tree op ne h (element a) = blames_exact _ 0 (Val a) tt
-  blames_tree op ne h neutral = blames_exact _ 0 (Val ne) tt
-  blames_tree op ne h (node s t) = blames_both _ _ _ (tree_gives op ne s) (tree_gives op ne t) op (blames_tree op ne h s) (blames_tree op ne h t) (λ a b u w. h a b)
+  blames_tree op ne h (element a) = gives_exact (There is_there) _ 0 (Val a) tt
+  blames_tree op ne h neutral = gives_exact (There is_there) _ 0 (Val ne) tt
+  blames_tree op ne h (node s t) = gives_both _ _ _ (tree_gives op ne s) (tree_gives op ne t) op (blames_tree op ne h s) (blames_tree op ne h t) (λ a b u w. h a b)
 
   module _ (tight : Bool) (Asked : Bool → Datum → List Datum → Type 0) (Writes : List (ℕ × Datum) → Type 0) (f : Applied) (go : (ds : List Datum) → Blameless (f ds)) where
     blames_reduced : (any : Bool) (ne : Datum) (xs : List Datum) → Blameless (Reduces tight any (Asked any) f ne xs)
@@ -116,13 +103,13 @@ module _ (is_there : Place → Bool) where
     blames_shown X m h _ _ (shown {o} {f} x y) = h o f y
 
     blames_finished : (k : List Datum → Out CountedDatum) → ((ds : List Datum) → Fine is_there (k ds)) → (ds : List Datum) → Blameless (finished k ds)
-    blames_finished k h ds = after _ _ (k ds) _ (h ds) (λ r u. blames_exact _ r.0 (Val r.1) tt)
+    blames_finished k h ds = after _ _ (k ds) _ (h ds) (λ r u. gives_exact (There is_there) _ r.0 (Val r.1) tt)
 
     pub blames_job : (j : Job) → Job_there is_there j → Blameless (job_means tight Asked Writes f j)
-    blames_job (Done r) h = blames_exact _ r.0 (Val r.1) tt
-    blames_job (Apply_each rows k) h = blames_then _ _ (each_of f rows) (finished k) (blames_each (λ a. Unit {0}) (λ a. Unit {0}) f (λ a u. go a) rows (every_any rows)) (λ ys u. blames_finished k h ys)
-    blames_job (Reduce_each any ne lists k) h = blames_then _ _ (all_of (Reduces tight any (Asked any) f ne) lists) (finished k) (blames_all (Reduces tight any (Asked any) f ne) (λ xs. blames_reduced any ne xs) lists) (λ ys u. blames_finished k h ys)
-    blames_job (Choose_each ws old k) h = blames_then _ _ _ (finished k) (blames_shown (Writes ws) _ (blames_all Some_of (λ xs. blames_some xs) _)) (λ ys u. blames_finished k h ys)
+    blames_job (Done r) h = gives_exact (There is_there) _ r.0 (Val r.1) tt
+    blames_job (Apply_each rows k) h = gives_then _ _ (each_of f rows) (finished k) (blames_each (λ a. Unit {0}) (λ a. Unit {0}) f (λ a u. go a) rows (every_any rows)) (λ ys u. blames_finished k h ys)
+    blames_job (Reduce_each any ne lists k) h = gives_then _ _ (all_of (Reduces tight any (Asked any) f ne) lists) (finished k) (blames_all (Reduces tight any (Asked any) f ne) (λ xs. blames_reduced any ne xs) lists) (λ ys u. blames_finished k h ys)
+    blames_job (Choose_each ws old k) h = gives_then _ _ _ (finished k) (blames_shown (Writes ws) _ (blames_all Some_of (λ xs. blames_some xs) _)) (λ ys u. blames_finished k h ys)
 
   -- ---- values
 
@@ -149,7 +136,7 @@ module _ (is_there : Place → Bool) where
   mutual
     unfolding datum_of datums_of named_datums_of
 
-    datum_fine : (v : FlatValue) → Fine is_there (datum_of v)
+    pub datum_fine : (v : FlatValue) → Fine is_there (datum_of v)
     datum_fine (Scalar_value s) = tt
     datum_fine (Tuple_value vs) = fine_then is_there _ (datums_of vs) _ (datums_fine vs) (λ ds. tt)
     datum_fine (Record_value fs) = fine_then is_there _ (named_datums_of fs) _ (named_fine fs) (λ ds. tt)
@@ -165,7 +152,7 @@ module _ (is_there : Place → Bool) where
     named_fine no_field = tt
     named_fine (field_and f v fs) = fine_then is_there _ (datum_of v) _ (datum_fine v) (λ d. fine_then is_there _ (named_datums_of fs) _ (named_fine fs) (λ ds. tt))
 
-  all_fine : (vs : List FlatValue) → Fine is_there (all_data vs)
+  pub all_fine : (vs : List FlatValue) → Fine is_there (all_data vs)
   all_fine [] = tt
   all_fine (v ∷ vs) = fine_then is_there _ (datum_of v) _ (datum_fine v) (λ d. fine_then is_there _ (all_data vs) _ (all_fine vs) (λ ds. tt))
 
@@ -228,6 +215,32 @@ module _ (is_there : Place → Bool) where
       by_test true r = h.0
       by_test false r = r
 
+  pub top_fine : (tops : FlatTops) (k : ℕ) → Fine is_there (top tops k)
+  top_fine [] k = tt
+  top_fine (d ∷ ds) k = tested (nat_eq d.0 k) (top_fine ds k)
+    where
+      tested : (b : Bool) → Fine is_there (top ds k) → Fine is_there (cond b (Val d.1) (top ds k))
+      tested true h = tt
+      tested false h = h
+
+  pub look_fine : (tops : FlatTops) (env : FlatEnv) (k : ℕ) → Fine is_there (flat_look tops env k)
+  unfolding flat_look
+  look_fine tops (base u) k = top_fine tops k
+  look_fine tops (entered q v env) k = look_fine tops env k
+  look_fine tops (bind b v env) k = tested (nat_eq b.0 k) (look_fine tops env k)
+    where
+      tested : (c : Bool) → Fine is_there (flat_look tops env k) → Fine is_there (cond c (Val v) (flat_look tops env k))
+      tested true h = tt
+      tested false h = h
+
+  pub record_parts_fine : (names : List Text) (fs : FlatFields) → Fine is_there (record_parts names fs)
+  record_parts_fine [] fs = tt
+  record_parts_fine (f ∷ names) fs = fine_then is_there _ (or_wrong (field f fs)) _ (or_wrong_there (λ x. Unit {0}) (field f fs) (any_field (field f fs))) (λ v. fine_then is_there _ (record_parts names fs) _ (record_parts_fine names fs) (λ vs. tt))
+    where
+      any_field : (o : Option FlatValue) → Opt_there (λ x. Unit {0}) o
+      any_field None = tt
+      any_field (Some v) = tt
+
   parts_there : (names : List Text) (fs : FlatFields) → Fields_there is_there fs → Out_there is_there All_there (record_parts names fs)
   parts_there [] fs h = tt
   parts_there (f ∷ names) fs h = out_then is_there (Value_there is_there) All_there (or_wrong (field f fs)) _ (or_wrong_there (Value_there is_there) (field f fs) (field_there f fs h)) (λ v x. out_then is_there All_there All_there (record_parts names fs) _ (parts_there names fs h) (λ vs xs. (x, xs)))
@@ -258,7 +271,7 @@ module _ (is_there : Place → Bool) where
   truth_scalar_fine (scalar.Bool b) = tt
   truth_scalar_fine (scalar.Int t n) = tt
 
-  truth_of_fine : (v : FlatValue) → Fine is_there (truth_of v)
+  pub truth_of_fine : (v : FlatValue) → Fine is_there (truth_of v)
   truth_of_fine v = fine_then is_there _ (scalar_of v) _ (scalar_of_fine v) truth_scalar_fine
 
   turns_scalar_fine : (s : Scalar) → Fine is_there (turns_of_scalar s)
@@ -289,7 +302,7 @@ module _ (is_there : Place → Bool) where
   mutual
     unfolding equal all_equal fields_equal
 
-    equal_fine : (v w : FlatValue) → Fine is_there (equal v w)
+    pub equal_fine : (v w : FlatValue) → Fine is_there (equal v w)
     equal_fine (Scalar_value a) (Scalar_value b) = scalars_equal a b
     equal_fine (Tuple_value vs) (Tuple_value ws) = all_equal_fine vs ws
     equal_fine (Record_value fs) (Record_value gs) = fields_equal_fine fs gs
@@ -406,8 +419,8 @@ module _ (is_there : Place → Bool) where
   operated_there row test t o at vs there h = by_making (making o)
     where
       by_making : (m : Option Making) → Blames (Value_there is_there) (operated_by true row m (coerced test o at vs (operate t o at vs)) at vs)
-      by_making None = blames_exact (Value_there is_there) 0 _ (coerced_there test o at vs (operate t o at vs) there (operate_there t o at vs h))
-      by_making (Some m) = after _ (Value_there is_there) (all_data vs) _ (all_fine vs) (λ ds u. after _ (Value_there is_there) (made true row m at ds) _ (made_fine is_there row m at ds) (λ r u. blames_exact (Value_there is_there) r.0 (Val (as_value r.1)) (data_there r.1)))
+      by_making None = gives_exact (There is_there) (Value_there is_there) 0 _ (coerced_there test o at vs (operate t o at vs) there (operate_there t o at vs h))
+      by_making (Some m) = after _ (Value_there is_there) (all_data vs) _ (all_fine vs) (λ ds u. after _ (Value_there is_there) (made true row m at ds) _ (made_fine is_there row m at ds) (λ r u. gives_exact (There is_there) (Value_there is_there) r.0 (Val (as_value r.1)) (data_there r.1)))
 
   primitive_there : (p : Primitive) (at : Place) (vs : List FlatValue) → Values_out (primitive p at vs)
   unfolding primitive Value_there
@@ -476,15 +489,15 @@ module _ (is_there : Place → Bool) where
       under_there q p v env task h e go = after (Env_there is_there) (Value_there is_there) (bound q p v env) _ (bound_there q p v env h e) (λ inner x. hr (task inner) (go inner x))
 
       called_there : (f : FlatValue) (ds : List Datum) → Value_there is_there f → Blameless (called R f ds)
-      called_there f [] h = blames_exact (λ a. Unit {0}) 0 (datum_of f) (datum_fine f)
-      called_there f (d ∷ ds) h = blames_then (Value_there is_there) (λ a. Unit {0}) (R (Call f (as_value d))) (λ g. called R g ds) (hr (Call f (as_value d)) (h, data_there d)) (λ g x. called_there g ds x)
+      called_there f [] h = gives_exact (There is_there) (λ a. Unit {0}) 0 (datum_of f) (datum_fine f)
+      called_there f (d ∷ ds) h = gives_then (Value_there is_there) (λ a. Unit {0}) (R (Call f (as_value d))) (λ g. called R g ds) (hr (Call f (as_value d)) (h, data_there d)) (λ g x. called_there g ds x)
 
       called_on_there : (k : ℕ) (f : FlatValue) (ds : List Datum) → Value_there is_there f → Blameless (called_on k R f ds)
-      called_on_there k f ds h = blames_choose (λ a. Unit {0}) (nat_eq (length ds) k) (called R f ds) (the Wrong) (called_there f ds h) (blames_exact (λ a. Unit {0}) 0 Wrong tt)
+      called_on_there k f ds h = blames_choose (λ a. Unit {0}) (nat_eq (length ds) k) (called R f ds) (the Wrong) (called_there f ds h) (gives_exact (There is_there) (λ a. Unit {0}) 0 Wrong tt)
 
       job_of_there : (k : ℕ) (f : FlatValue) (j : Job) → Value_there is_there f → Job_there is_there j → Gives_there (job_of L (unrestricted tight true) budget R k f j)
       unfolding unrestricted
-      job_of_there k f j h t = blames_then (λ a. Unit {0}) (Value_there is_there) _ _ (blames_job tight _ _ (called_on k R f) (λ ds. called_on_there k f ds h) j t) (λ d u. blames_exact (Value_there is_there) 0 (Val (as_value d)) (data_there d))
+      job_of_there k f j h t = gives_then (λ a. Unit {0}) (Value_there is_there) _ _ (blames_job tight _ _ (called_on k R f) (λ ds. called_on_there k f ds h) j t) (λ d u. gives_exact (There is_there) (Value_there is_there) 0 (Val (as_value d)) (data_there d))
 
       runs_there : (p : Primitive) (at : Place) (vs : List FlatValue) → Primitive_there is_there p at → All_there vs → Gives_there (runs L (unrestricted tight true) budget R p at vs)
       unfolding unrestricted Value_there Values_there
@@ -494,51 +507,51 @@ module _ (is_there : Place → Bool) where
 
       given_there : (p : Primitive) (at : Place) (vs : List FlatValue) (waits : Bool) → Primitive_there is_there p at → All_there vs → Gives_there (given L (unrestricted tight true) budget R p at vs waits)
       unfolding Value_there
-      given_there p at vs true t h = blames_exact (Value_there is_there) 0 (Val (Primitive_value p at (values vs))) (t, values_are vs h)
-      given_there p at vs false t h = blames_choose (Value_there is_there) (is_of_scalars p) (the (primitive p at vs)) (runs L (unrestricted tight true) budget R p at vs) (blames_exact (Value_there is_there) 0 (primitive p at vs) (primitive_there p at vs)) (runs_there p at vs t h)
+      given_there p at vs true t h = gives_exact (There is_there) (Value_there is_there) 0 (Val (Primitive_value p at (values vs))) (t, values_are vs h)
+      given_there p at vs false t h = blames_choose (Value_there is_there) (is_of_scalars p) (the (primitive p at vs)) (runs L (unrestricted tight true) budget R p at vs) (gives_exact (There is_there) (Value_there is_there) 0 (primitive p at vs) (primitive_there p at vs)) (runs_there p at vs t h)
 
       call_there : (f v : FlatValue) → Value_there is_there f → Value_there is_there v → Gives_there (call L (unrestricted tight true) budget R f v)
       unfolding Value_there
-      call_there (Scalar_value s) v h x = blames_exact (Value_there is_there) 0 Wrong tt
-      call_there (Tuple_value vs) v h x = blames_exact (Value_there is_there) 0 Wrong tt
-      call_there (Record_value fs) v h x = blames_exact (Value_there is_there) 0 Wrong tt
-      call_there (Array_value row ds) v h x = blames_exact (Value_there is_there) 0 Wrong tt
-      call_there (Closure no_pattern body lo env) v h x = blames_exact (Value_there is_there) 0 Wrong tt
+      call_there (Scalar_value s) v h x = gives_exact (There is_there) (Value_there is_there) 0 Wrong tt
+      call_there (Tuple_value vs) v h x = gives_exact (There is_there) (Value_there is_there) 0 Wrong tt
+      call_there (Record_value fs) v h x = gives_exact (There is_there) (Value_there is_there) 0 Wrong tt
+      call_there (Array_value row ds) v h x = gives_exact (There is_there) (Value_there is_there) 0 Wrong tt
+      call_there (Closure no_pattern body lo env) v h x = gives_exact (There is_there) (Value_there is_there) 0 Wrong tt
       call_there (Closure (pattern_and p no_pattern) body lo env) v h x = under_there (first_node (pattern_and p no_pattern) lo) p v env (λ e. Evaluate e lo body) x h.1 (λ e y. (y, h.0))
       call_there (Closure (pattern_and p (pattern_and q ps)) body lo env) v h x =
-          after (Env_there is_there) (Value_there is_there) (bound (first_node (pattern_and p (pattern_and q ps)) lo) p v env) _ (bound_there (first_node (pattern_and p (pattern_and q ps)) lo) p v env x h.1) (λ e y. blames_exact (Value_there is_there) 0 (Val (Closure (pattern_and q ps) body lo e)) (h.0, y))
+          after (Env_there is_there) (Value_there is_there) (bound (first_node (pattern_and p (pattern_and q ps)) lo) p v env) _ (bound_there (first_node (pattern_and p (pattern_and q ps)) lo) p v env x h.1) (λ e y. gives_exact (There is_there) (Value_there is_there) 0 (Val (Closure (pattern_and q ps) body lo e)) (h.0, y))
       call_there (Primitive_value p at vs) v h x = given_there p at (listed vs ++ v ∷ []) (nat_lt (length (listed vs ++ v ∷ [])) (arity p)) h.0 (every_one_more (listed vs) v (listed_are vs h.1) x)
 
       looped_there : (env : FlatEnv) (q : ℕ) (p : FlatPattern) (mark : Place) (ts : FlatTurns) (body : FlatTerm) (lo mid : ℕ) (v : FlatValue) → Env_there is_there env → Turns_there is_there ts → Term_there is_there body → Value_there is_there v → Gives_there (looped budget R env q p mark ts body lo mid v)
       unfolding Turns_there Env_there Value_there
       looped_there env q p mark (Counted i n) body lo mid v e t b h =
-          blames_then (Value_there is_there) (Value_there is_there) (R (Evaluate env (1 + lo) n)) _ (hr (Evaluate env (1 + lo) n) (e, t)) (λ k x. after (λ a. Unit {0}) (Value_there is_there) (turns_of k) _ (turns_of_fine k)
+          gives_then (Value_there is_there) (Value_there is_there) (R (Evaluate env (1 + lo) n)) _ (hr (Evaluate env (1 + lo) n) (e, t)) (λ k x. after (λ a. Unit {0}) (Value_there is_there) (turns_of k) _ (turns_of_fine k)
           (λ c u. blames_turns (λ a. Unit {0}) (Value_there is_there) _ (λ j w u y. under_there q p w env (λ e. Evaluate (bind i (Scalar_value (scalar.Int c.0 j)) (entered lo (Scalar_value (scalar.Int c.0 j)) e)) mid body) y e (λ inner z. ((tt, (tt, z)), b))) (counts c.1 0) v (every_any (counts c.1 0)) h))
       looped_there env q p mark (Over r a) body lo mid v e t b h =
-          blames_then (Value_there is_there) (Value_there is_there) (R (Evaluate env (lo + pattern_numbers r) a)) _ (hr (Evaluate env (lo + pattern_numbers r) a) (e, t)) (λ w x. after (λ a. Unit {0}) (Value_there is_there) (and_then (datum_of w) rows_of) _ (fine_then is_there _ (datum_of w) _ (datum_fine w) (λ d. rows_fine is_there d))
+          gives_then (Value_there is_there) (Value_there is_there) (R (Evaluate env (lo + pattern_numbers r) a)) _ (hr (Evaluate env (lo + pattern_numbers r) a) (e, t)) (λ w x. after (λ a. Unit {0}) (Value_there is_there) (and_then (datum_of w) rows_of) _ (fine_then is_there _ (datum_of w) _ (datum_fine w) (λ d. rows_fine is_there d))
           (λ ds u. blames_turns (λ a. Unit {0}) (Value_there is_there) _ (λ d w u y. after (Env_there is_there) (Value_there is_there) (bound q p w env) _ (bound_there q p w env y e) (λ inner z. under_there lo r (as_value d) inner (λ e. Evaluate e mid body) (data_there d) z (λ i2 z2. (z2, b)))) ds.1 v (every_any ds.1) h))
       looped_there env q p mark (While c) body lo mid v e t b h =
           blames_while (Value_there is_there) budget (report kind.Turns mark) _ _ (λ x. let z : kind.Turns ≡ kind.Size = x in cc)
-          (λ w y. blames_then (Value_there is_there) (λ a. Unit {0}) _ _ (under_there q p w env (λ e. Evaluate e lo c) y e (λ inner z. (z, t))) (λ b x. blames_exact (λ a. Unit {0}) 0 (truth_of b) (truth_of_fine b)))
+          (λ w y. gives_then (Value_there is_there) (λ a. Unit {0}) _ _ (under_there q p w env (λ e. Evaluate e lo c) y e (λ inner z. (z, t))) (λ b x. gives_exact (There is_there) (λ a. Unit {0}) 0 (truth_of b) (truth_of_fine b)))
           (λ w y. under_there q p w env (λ e. Evaluate e mid body) y e (λ inner z. (z, b))) v h
 
       step_there : (t : FlatTask) → Task_there t → Gives_there (step L (unrestricted tight true) budget R t)
       unfolding Term_there Value_there unrestricted
       step_there (Call f v) h = call_there f v h.0 h.1
-      step_there (Evaluate env lo (Use r at k)) h = blames_exact (Value_there is_there) 0 (L.named (lo + (k + k)) env r at) (named_out (lo + (k + k)) env r at h.0 h.1)
+      step_there (Evaluate env lo (Use r at k)) h = gives_exact (There is_there) (Value_there is_there) 0 (L.named (lo + (k + k)) env r at) (named_out (lo + (k + k)) env r at h.0 h.1)
       step_there (Evaluate env lo (Strict o mark ts)) h =
-          blames_then All_there (Value_there is_there) _ _ (blames_each (λ (t : ℕ × FlatTerm). Term_there is_there t.1) (Value_there is_there) (λ t. R (Evaluate env t.0 t.1)) (λ t x. hr (Evaluate env t.0 t.1) (h.0, x)) (placed (lo + own_numbers o) ts) (placed_there (lo + own_numbers o) ts (h.1).1))
+          gives_then All_there (Value_there is_there) _ _ (blames_each (λ (t : ℕ × FlatTerm). Term_there is_there t.1) (Value_there is_there) (λ t. R (Evaluate env t.0 t.1)) (λ t x. hr (Evaluate env t.0 t.1) (h.0, x)) (placed (lo + own_numbers o) ts) (placed_there (lo + own_numbers o) ts (h.1).1))
           (λ vs x. operated_there (row_told L (Of_literal env lo)) (fits_type L env lo) (L.told.integer_at lo) o mark vs (h.1).0 x)
-      step_there (Evaluate env lo (Lambda ps e)) h = blames_exact (Value_there is_there) 0 (Val (Closure ps e (1 + lo + all_pattern_numbers ps) env)) (h.1, h.0)
+      step_there (Evaluate env lo (Lambda ps e)) h = gives_exact (There is_there) (Value_there is_there) 0 (Val (Closure ps e (1 + lo + all_pattern_numbers ps) env)) (h.1, h.0)
       step_there (Evaluate env lo (Apply f e)) h =
-          blames_then (Value_there is_there) (Value_there is_there) (R (Evaluate env (1 + lo) f)) _ (hr (Evaluate env (1 + lo) f) (h.0, (h.1).0)) (λ g x. blames_then (Value_there is_there) (Value_there is_there) (R (Evaluate env (1 + lo + numbers f) e)) _ (hr (Evaluate env (1 + lo + numbers f) e) (h.0, (h.1).1)) (λ v y. hr (Call g v) (x, y)))
+          gives_then (Value_there is_there) (Value_there is_there) (R (Evaluate env (1 + lo) f)) _ (hr (Evaluate env (1 + lo) f) (h.0, (h.1).0)) (λ g x. gives_then (Value_there is_there) (Value_there is_there) (R (Evaluate env (1 + lo + numbers f) e)) _ (hr (Evaluate env (1 + lo + numbers f) e) (h.0, (h.1).1)) (λ v y. hr (Call g v) (x, y)))
       step_there (Evaluate env lo (Let b v e)) h =
-          blames_then (Value_there is_there) (Value_there is_there) (R (Evaluate env (1 + lo + pattern_numbers b.pattern) v)) _ (hr (Evaluate env (1 + lo + pattern_numbers b.pattern) v) (h.0, (h.1).0)) (λ w x. under_there (1 + lo) b.pattern w env (λ inner. Evaluate inner (1 + lo + pattern_numbers b.pattern + numbers v) e) x h.0 (λ inner z. (z, (h.1).1)))
+          gives_then (Value_there is_there) (Value_there is_there) (R (Evaluate env (1 + lo + pattern_numbers b.pattern) v)) _ (hr (Evaluate env (1 + lo + pattern_numbers b.pattern) v) (h.0, (h.1).0)) (λ w x. under_there (1 + lo) b.pattern w env (λ inner. Evaluate inner (1 + lo + pattern_numbers b.pattern + numbers v) e) x h.0 (λ inner z. (z, (h.1).1)))
       step_there (Evaluate env lo (If c a b)) h =
-          blames_then (Value_there is_there) (Value_there is_there) (R (Evaluate env (1 + lo) c)) _ (hr (Evaluate env (1 + lo) c) (h.0, (h.1).0)) (λ v x. after (λ a. Unit {0}) (Value_there is_there) (truth_of v) _ (truth_of_fine v)
+          gives_then (Value_there is_there) (Value_there is_there) (R (Evaluate env (1 + lo) c)) _ (hr (Evaluate env (1 + lo) c) (h.0, (h.1).0)) (λ v x. after (λ a. Unit {0}) (Value_there is_there) (truth_of v) _ (truth_of_fine v)
           (λ holds u. blames_choose (Value_there is_there) holds _ _ (hr (Evaluate env (1 + lo + numbers c) a) (h.0, (h.1).1)) (hr (Evaluate env (1 + lo + numbers c + numbers a) b) (h.0, (h.1).2))))
       step_there (Evaluate env lo (Loop mark sizes p first ts body)) h =
-          blames_then (Value_there is_there) (Value_there is_there) (R (Evaluate env (1 + lo + pattern_numbers p) first)) _ (hr (Evaluate env (1 + lo + pattern_numbers p) first) (h.0, (h.1).0)) (λ v x. looped_there env (1 + lo) p mark ts body (1 + lo + pattern_numbers p + numbers first) (1 + lo + pattern_numbers p + numbers first + turn_numbers ts) v h.0 (h.1).1 (h.1).2 x)
+          gives_then (Value_there is_there) (Value_there is_there) (R (Evaluate env (1 + lo + pattern_numbers p) first)) _ (hr (Evaluate env (1 + lo + pattern_numbers p) first) (h.0, (h.1).0)) (λ v x. looped_there env (1 + lo) p mark ts body (1 + lo + pattern_numbers p + numbers first) (1 + lo + pattern_numbers p + numbers first + turn_numbers ts) v h.0 (h.1).1 (h.1).2 x)
 
     means_there : (n : ℕ) (t : FlatTask) → Task_there t → Blames (Value_there is_there) (Means L (unrestricted tight true) budget n t)
     unfolding Means
@@ -549,8 +562,8 @@ module _ (is_there : Place → Bool) where
     ever_there t h _ _ (ever {o} {f} n x) = means_there n t h o f x
 
     applied_there : (vs : List FlatValue) (f : FlatValue) → Value_there is_there f → All_there vs → Blames (Value_there is_there) (applied_to (flat_names told) (Ever L (unrestricted tight true) budget) vs f)
-    applied_there [] f h e = blames_exact (Value_there is_there) 0 (Val f) h
-    applied_there (v ∷ vs) f h e = blames_then (Value_there is_there) (Value_there is_there) (Ever L (unrestricted tight true) budget (Call f v)) _ (ever_there (Call f v) (h, e.0)) (λ g x. applied_there vs g x e.1)
+    applied_there [] f h e = gives_exact (There is_there) (Value_there is_there) 0 (Val f) h
+    applied_there (v ∷ vs) f h e = gives_then (Value_there is_there) (Value_there is_there) (Ever L (unrestricted tight true) budget (Call f v)) _ (ever_there (Call f v) (h, e.0)) (λ g x. applied_there vs g x e.1)
 
   -- ---- programs
 
@@ -579,10 +592,10 @@ module _ (is_there : Place → Bool) where
 
     evaluated_there : (ds : List Named_term) (lo entry : ℕ) (seen : Seen Ref BindId (Unit {0})) (tops : FlatTops) → Definitions_there is_there ds → Seen_there seen → Tops_there tops → Blames Tops_there (evaluated (flat_names told) (unrestricted tight true) budget entry (flat_tops lo ds) seen tops)
     unfolding flat_tops
-    evaluated_there [] lo entry seen tops h e known = blames_exact Tops_there 0 (Val tops) known
+    evaluated_there [] lo entry seen tops h e known = gives_exact (There is_there) Tops_there 0 (Val tops) known
     evaluated_there (d ∷ ds) lo entry seen tops h e known =
         blames_choose Tops_there _ _ _
-        (blames_then (Value_there is_there) Tops_there (Ever ((flat_names told).lang tops) (unrestricted tight true) budget (Evaluate (below_names seen tt) (1 + lo) d.1)) _ (ever_there told tight budget tops known (Evaluate (below_names seen tt) (1 + lo) d.1) (below_there seen e, h.0))
+        (gives_then (Value_there is_there) Tops_there (Ever ((flat_names told).lang tops) (unrestricted tight true) budget (Evaluate (below_names seen tt) (1 + lo) d.1)) _ (ever_there told tight budget tops known (Evaluate (below_names seen tt) (1 + lo) d.1) (below_there seen e, h.0))
         (λ v x. evaluated_there ds (lo + (1 + numbers d.1)) entry (seeing (1 + lo - 1) v seen) ((d.0.0, v) ∷ tops) h.1 (seeing_there (1 + lo - 1) v seen x e) (top_there d.0.0 v tops x known)))
         (evaluated_there ds (lo + (1 + numbers d.1)) entry seen tops h.1 e known)
 
@@ -592,7 +605,7 @@ module _ (is_there : Place → Bool) where
 
 pub sizes_are_reported_there : SizesAreReportedThere
 sizes_are_reported_there told tight budget ds entry arguments is_there h a r words x =
-    blames_then is_there (Tops_there is_there) (Value_there is_there) _ _ (evaluated_there is_there told tight budget ds 0 entry.0 [] [] h tt (λ b. tt))
+    gives_then (Tops_there is_there) (Value_there is_there) _ _ (evaluated_there is_there told tight budget ds 0 entry.0 [] [] h tt (λ b. tt))
     (λ tops known. after is_there (Value_there is_there) (Value_there is_there) (top tops entry.0) _ (known entry.0) (λ f y. applied_there is_there told tight budget tops known arguments f y (arguments_are is_there arguments a)))
     (Fail r) words x
 

@@ -1,5 +1,9 @@
 -- Slices and indices of an array are of the sized type that is left: how many rows a slice has is met, or
 -- the number that it goes to; `[:]` and `[::-1]` keep a size.
+use Rattle.fut_scalar.specs.declared.report.Report.{Report}
+use Rattle.sized_meaning.proofs.Quiet.{out_of_bounds, too_large}
+use Rattle.sized_meaning.proofs.Size_reports.{datum_fine}
+use Rattle.sized_meaning.specs.There.{There}
 use Rattle.std.specs.Prelude.{ℤ, pos, negsuc, nat_le}
 use Rattle.std.proofs.Common.{◌≡◌, ℕ, zero, suc, ◌+◌, ◌-◌, ◌≤◌, List, [], ◌∷◌, length, take, drop, reverse, Bool, true, false, ◌⊎◌, inl, inr, ◌&&◌, Some, None, Ok, refl, sym, ap, ◌∙◌, subst, arith, leb-true, cond, ◌^◌, lt-ltb}
 use Rattle.std.proofs.lemmas.List.{length-take-le, length-drop, length-reverse}
@@ -60,24 +64,24 @@ Picked (part.Slice false true ∷ ps) (Pick_slice x y ∷ qs) = Picked ps qs
 Picked (part.Backwards ∷ ps) (Pick_backwards ∷ qs) = Picked ps qs
 Picked ps qs = ⊥
 
-pick_out : (p : Part) (ps : List Part) (q : Pick) (o : Out (List Pick)) → Out_fits (Picked ps) o → ((qs : List Pick) → Picked ps qs → Picked (p ∷ ps) (q ∷ qs)) → Out_fits (Picked (p ∷ ps)) (and_then o (λ qs. Val (q ∷ qs)))
-pick_out p ps q o h go = out_then (Picked ps) (Picked (p ∷ ps)) o (λ qs. Val (q ∷ qs)) h go
+pick_out : (quiet : Report → Type 0) (p : Part) (ps : List Part) (q : Pick) (o : Out (List Pick)) → Out_fits quiet (Picked ps) o → ((qs : List Pick) → Picked ps qs → Picked (p ∷ ps) (q ∷ qs)) → Out_fits quiet (Picked (p ∷ ps)) (and_then o (λ qs. Val (q ∷ qs)))
+pick_out quiet p ps q o h go = out_then _ (Picked ps) (Picked (p ∷ ps)) o (λ qs. Val (q ∷ qs)) h go
 
-picked : (ps : List Part) (zs : List ℤ) → Out_fits (Picked ps) (picks ps zs)
+picked : (quiet : Report → Type 0) (ps : List Part) (zs : List ℤ) → Out_fits quiet (Picked ps) (picks ps zs)
 unfolding picks Picked
-picked [] [] = tt
-picked [] (z ∷ zs) = tt
-picked (part.At ∷ ps) [] = tt
-picked (part.At ∷ ps) (z ∷ zs) = pick_out part.At ps (Pick_at z) (picks ps zs) (picked ps zs) (λ qs h. h)
-picked (part.Slice true true ∷ ps) [] = tt
-picked (part.Slice true true ∷ ps) (z ∷ []) = tt
-picked (part.Slice true true ∷ ps) (z ∷ w ∷ zs) = pick_out (part.Slice true true) ps (Pick_slice (Some z) (Some w)) (picks ps zs) (picked ps zs) (λ qs h. h)
-picked (part.Slice true false ∷ ps) [] = tt
-picked (part.Slice true false ∷ ps) (z ∷ zs) = pick_out (part.Slice true false) ps (Pick_slice (Some z) None) (picks ps zs) (picked ps zs) (λ qs h. h)
-picked (part.Slice false true ∷ ps) [] = tt
-picked (part.Slice false true ∷ ps) (z ∷ zs) = pick_out (part.Slice false true) ps (Pick_slice None (Some z)) (picks ps zs) (picked ps zs) (λ qs h. h)
-picked (part.Slice false false ∷ ps) zs = pick_out (part.Slice false false) ps (Pick_slice None None) (picks ps zs) (picked ps zs) (λ qs h. h)
-picked (part.Backwards ∷ ps) zs = pick_out part.Backwards ps Pick_backwards (picks ps zs) (picked ps zs) (λ qs h. h)
+picked quiet [] [] = tt
+picked quiet [] (z ∷ zs) = tt
+picked quiet (part.At ∷ ps) [] = tt
+picked quiet (part.At ∷ ps) (z ∷ zs) = pick_out quiet part.At ps (Pick_at z) (picks ps zs) (picked quiet ps zs) (λ qs h. h)
+picked quiet (part.Slice true true ∷ ps) [] = tt
+picked quiet (part.Slice true true ∷ ps) (z ∷ []) = tt
+picked quiet (part.Slice true true ∷ ps) (z ∷ w ∷ zs) = pick_out quiet (part.Slice true true) ps (Pick_slice (Some z) (Some w)) (picks ps zs) (picked quiet ps zs) (λ qs h. h)
+picked quiet (part.Slice true false ∷ ps) [] = tt
+picked quiet (part.Slice true false ∷ ps) (z ∷ zs) = pick_out quiet (part.Slice true false) ps (Pick_slice (Some z) None) (picks ps zs) (picked quiet ps zs) (λ qs h. h)
+picked quiet (part.Slice false true ∷ ps) [] = tt
+picked quiet (part.Slice false true ∷ ps) (z ∷ zs) = pick_out quiet (part.Slice false true) ps (Pick_slice None (Some z)) (picks ps zs) (picked quiet ps zs) (λ qs h. h)
+picked quiet (part.Slice false false ∷ ps) zs = pick_out quiet (part.Slice false false) ps (Pick_slice None None) (picks ps zs) (picked quiet ps zs) (λ qs h. h)
+picked quiet (part.Backwards ∷ ps) zs = pick_out quiet part.Backwards ps Pick_backwards (picks ps zs) (picked quiet ps zs) (λ qs h. h)
 
 -- how many rows each cut keeps, from a level on
 abbrev counts : List Cut → List ℕ
@@ -125,59 +129,59 @@ module _ (N : Names) (types : Sub) (τ : Meant) (W : World) (S : Sound N types W
   Cuts_of ps t cs = ⊥
 
   -- a slice ends within its array
-  within : (at : Place) (n : ℕ) (x y : ℤ) → Out_fits (λ c. (i : ℕ) × (j : ℕ) × (c ≡ Cut_slice i j) × (j ≤ n)) (slice_cut at n x y)
+  within : (at : Place) (n : ℕ) (x y : ℤ) → Out_fits (There W.is_there) (λ c. (i : ℕ) × (j : ℕ) × (c ≡ Cut_slice i j) × (j ≤ n)) (slice_cut at n x y)
   within at n (pos i) (pos j) = tested (nat_le i j && nat_le j n) refl
     where
-      tested : (b : Bool) → nat_le i j && nat_le j n ≡ b → Out_fits (λ c. (i : ℕ) × (j : ℕ) × (c ≡ Cut_slice i j) × (j ≤ n)) (checked b kind.Bounds at (Val (Cut_slice i j)))
+      tested : (b : Bool) → nat_le i j && nat_le j n ≡ b → Out_fits (There W.is_there) (λ c. (i : ℕ) × (j : ℕ) × (c ≡ Cut_slice i j) × (j ≤ n)) (checked b kind.Bounds at (Val (Cut_slice i j)))
       tested true e = (i, j, refl, leb-true j n (both_true (nat_le i j) (nat_le j n) e).1)
-      tested false e = tt
-  within at n (pos i) (negsuc j) = tt
-  within at n (negsuc i) y = tt
+      tested false e = out_of_bounds W.is_there at
+  within at n (pos i) (negsuc j) = out_of_bounds W.is_there at
+  within at n (negsuc i) y = out_of_bounds W.is_there at
 
-  whole : (at : Place) (n : ℕ) → Out_fits (λ c. c ≡ Cut_slice 0 n) (slice_cut at n (pos 0) (pos n))
+  whole : (at : Place) (n : ℕ) → Out_fits (There W.is_there) (λ c. c ≡ Cut_slice 0 n) (slice_cut at n (pos 0) (pos n))
   whole at n = tested (nat_le 0 n && nat_le n n)
     where
-      tested : (b : Bool) → Out_fits (λ c. c ≡ Cut_slice 0 n) (checked b kind.Bounds at (Val (Cut_slice 0 n)))
+      tested : (b : Bool) → Out_fits (There W.is_there) (λ c. c ≡ Cut_slice 0 n) (checked b kind.Bounds at (Val (Cut_slice 0 n)))
       tested true = refl
-      tested false = tt
+      tested false = out_of_bounds W.is_there at
 
-  and_cut : (p : Part) (ps : List Part) (d : Dim) (t : Size) (c : Cut) (o : Out (List Cut)) → Out_fits (Cuts_of ps t) o → ((cs : List Cut) → Cuts_of ps t cs → Cuts_of (p ∷ ps) (Level d t) (c ∷ cs)) → Out_fits (Cuts_of (p ∷ ps) (Level d t)) (and_then o (λ cs. Val (c ∷ cs)))
-  and_cut p ps d t c o h go = out_then (Cuts_of ps t) (Cuts_of (p ∷ ps) (Level d t)) o (λ cs. Val (c ∷ cs)) h go
+  and_cut : (p : Part) (ps : List Part) (d : Dim) (t : Size) (c : Cut) (o : Out (List Cut)) → Out_fits (There W.is_there) (Cuts_of ps t) o → ((cs : List Cut) → Cuts_of ps t cs → Cuts_of (p ∷ ps) (Level d t) (c ∷ cs)) → Out_fits (There W.is_there) (Cuts_of (p ∷ ps) (Level d t)) (and_then o (λ cs. Val (c ∷ cs)))
+  and_cut p ps d t c o h go = out_then _ (Cuts_of ps t) (Cuts_of (p ∷ ps) (Level d t)) o (λ cs. Val (c ∷ cs)) h go
 
-  cuts_out : (n i : ℕ) (at : Place) (ps : List Part) (es : Terms Ref BindId) (t : Size) (qs : List Pick) (h : Shape) → Slices ps es t → Picked ps qs → Has_shape N τ m no_frames t h → Out_fits (Cuts_of ps t) (cuts at qs h)
+  cuts_out : (n i : ℕ) (at : Place) (ps : List Part) (es : Terms Ref BindId) (t : Size) (qs : List Pick) (h : Shape) → Slices ps es t → Picked ps qs → Has_shape N τ m no_frames t h → Out_fits (There W.is_there) (Cuts_of ps t) (cuts at qs h)
   unfolding cuts Picked Cuts_of Has_shape
   cuts_out n i at [] es t [] h p q x = tt
   cuts_out n i at [] es t (z ∷ qs) h p q x = absurd q
-  cuts_out n i at (part.At ∷ ps) (term_and e es) (Level d t) (Pick_at (negsuc k) ∷ qs) (Array_shape l row) p q x = tt
+  cuts_out n i at (part.At ∷ ps) (term_and e es) (Level d t) (Pick_at (negsuc k) ∷ qs) (Array_shape l row) p q x = out_of_bounds W.is_there at
   cuts_out n i at (part.At ∷ ps) (term_and e es) (Level d t) (Pick_at (pos k) ∷ qs) (Array_shape l row) p q x = tested (nat_le (suc k) l) (cuts_out n i at ps es t qs row p q x.1)
     where
-      tested : (b : Bool) → Out_fits (Cuts_of ps t) (cuts at qs row) → Out_fits (Cuts_of (part.At ∷ ps) (Level d t)) (and_then (checked b kind.Bounds at (Val (Cut_at k))) (λ c. and_then (cuts at qs row) (λ cs. Val (c ∷ cs))))
+      tested : (b : Bool) → Out_fits (There W.is_there) (Cuts_of ps t) (cuts at qs row) → Out_fits (There W.is_there) (Cuts_of (part.At ∷ ps) (Level d t)) (and_then (checked b kind.Bounds at (Val (Cut_at k))) (λ c. and_then (cuts at qs row) (λ cs. Val (c ∷ cs))))
       tested true rest = and_cut part.At ps d t (Cut_at k) (cuts at qs row) rest (λ cs z. z)
-      tested false rest = tt
+      tested false rest = out_of_bounds W.is_there at
   cuts_out n i at (part.At ∷ ps) (term_and e es) (Level d t) (Pick_at z ∷ qs) h p q x = absurd x
   cuts_out n i at (part.At ∷ ps) (term_and e es) (Level d t) qs h p q x = absurd q
   cuts_out n i at (part.At ∷ ps) es t qs h p q x = absurd p
   cuts_out n i at (part.Slice false false ∷ ps) es (Level d t) (Pick_slice None None ∷ qs) (Array_shape l row) p q x =
-      out_then (λ c. c ≡ Cut_slice 0 l) (Cuts_of (part.Slice false false ∷ ps) (Level d t)) (slice_cut at l (pos 0) (pos l)) (λ c. and_then (cuts at qs row) (λ cs. Val (c ∷ cs))) (whole at l)
-      (λ c e. subst (λ z. Out_fits (Cuts_of (part.Slice false false ∷ ps) (Level d t)) (and_then (cuts at qs row) (λ cs. Val (z ∷ cs)))) (sym e) (and_cut (part.Slice false false) ps d t (Cut_slice 0 l) (cuts at qs row) (cuts_out n (suc i) at ps es t qs row p q x.1) (λ cs z. (refl, x.0, z))))
+      out_then _ (λ c. c ≡ Cut_slice 0 l) (Cuts_of (part.Slice false false ∷ ps) (Level d t)) (slice_cut at l (pos 0) (pos l)) (λ c. and_then (cuts at qs row) (λ cs. Val (c ∷ cs))) (whole at l)
+      (λ c e. subst (λ z. Out_fits (There W.is_there) (Cuts_of (part.Slice false false ∷ ps) (Level d t)) (and_then (cuts at qs row) (λ cs. Val (z ∷ cs)))) (sym e) (and_cut (part.Slice false false) ps d t (Cut_slice 0 l) (cuts at qs row) (cuts_out n (suc i) at ps es t qs row p q x.1) (λ cs z. (refl, x.0, z))))
   cuts_out n i at (part.Slice false false ∷ ps) es (Level d t) (Pick_slice None None ∷ qs) h p q x = absurd x
   cuts_out n i at (part.Slice false false ∷ ps) es (Level d t) qs h p q x = absurd q
   cuts_out n i at (part.Slice false false ∷ ps) es t qs h p q x = absurd p
   cuts_out n i at (part.Slice false true ∷ ps) (term_and e es) (Level d t) (Pick_slice a b ∷ qs) (Array_shape l row) p q x =
-      out_then (λ c. (i : ℕ) × (j : ℕ) × (c ≡ Cut_slice i j) × (j ≤ l)) (Cuts_of (part.Slice false true ∷ ps) (Level d t)) (slice_cut at l (or_else (pos 0) a) (or_else (pos l) b)) (λ c. and_then (cuts at qs row) (λ cs. Val (c ∷ cs))) (within at l (or_else (pos 0) a) (or_else (pos l) b))
-      (λ c w. subst (λ z. Out_fits (Cuts_of (part.Slice false true ∷ ps) (Level d t)) (and_then (cuts at qs row) (λ cs. Val (z ∷ cs)))) (sym w.2) (and_cut (part.Slice false true) ps d t (Cut_slice w.0 w.1) (cuts at qs row) (cuts_out n (suc i) at ps es t qs row p q x.1) (λ cs z. (subst (λ k. w.1 ≤ k) x.0 w.3, z))))
+      out_then _ (λ c. (i : ℕ) × (j : ℕ) × (c ≡ Cut_slice i j) × (j ≤ l)) (Cuts_of (part.Slice false true ∷ ps) (Level d t)) (slice_cut at l (or_else (pos 0) a) (or_else (pos l) b)) (λ c. and_then (cuts at qs row) (λ cs. Val (c ∷ cs))) (within at l (or_else (pos 0) a) (or_else (pos l) b))
+      (λ c w. subst (λ z. Out_fits (There W.is_there) (Cuts_of (part.Slice false true ∷ ps) (Level d t)) (and_then (cuts at qs row) (λ cs. Val (z ∷ cs)))) (sym w.2) (and_cut (part.Slice false true) ps d t (Cut_slice w.0 w.1) (cuts at qs row) (cuts_out n (suc i) at ps es t qs row p q x.1) (λ cs z. (subst (λ k. w.1 ≤ k) x.0 w.3, z))))
   cuts_out n i at (part.Slice false true ∷ ps) (term_and e es) (Level d t) (Pick_slice a b ∷ qs) h p q x = absurd x
   cuts_out n i at (part.Slice false true ∷ ps) (term_and e es) (Level d t) qs h p q x = absurd q
   cuts_out n i at (part.Slice false true ∷ ps) es t qs h p q x = absurd p
   cuts_out n i at (part.Slice true false ∷ ps) (term_and e es) (Level d t) (Pick_slice a b ∷ qs) (Array_shape l row) p q x =
-      out_then (λ c. (i : ℕ) × (j : ℕ) × (c ≡ Cut_slice i j) × (j ≤ l)) (Cuts_of (part.Slice true false ∷ ps) (Level d t)) (slice_cut at l (or_else (pos 0) a) (or_else (pos l) b)) (λ c. and_then (cuts at qs row) (λ cs. Val (c ∷ cs))) (within at l (or_else (pos 0) a) (or_else (pos l) b))
-      (λ c w. subst (λ z. Out_fits (Cuts_of (part.Slice true false ∷ ps) (Level d t)) (and_then (cuts at qs row) (λ cs. Val (z ∷ cs)))) (sym w.2) (and_cut (part.Slice true false) ps d t (Cut_slice w.0 w.1) (cuts at qs row) (cuts_out n (suc i) at ps es t qs row p q x.1) (λ cs z. (subst (λ k. w.1 ≤ k) x.0 w.3, z))))
+      out_then _ (λ c. (i : ℕ) × (j : ℕ) × (c ≡ Cut_slice i j) × (j ≤ l)) (Cuts_of (part.Slice true false ∷ ps) (Level d t)) (slice_cut at l (or_else (pos 0) a) (or_else (pos l) b)) (λ c. and_then (cuts at qs row) (λ cs. Val (c ∷ cs))) (within at l (or_else (pos 0) a) (or_else (pos l) b))
+      (λ c w. subst (λ z. Out_fits (There W.is_there) (Cuts_of (part.Slice true false ∷ ps) (Level d t)) (and_then (cuts at qs row) (λ cs. Val (z ∷ cs)))) (sym w.2) (and_cut (part.Slice true false) ps d t (Cut_slice w.0 w.1) (cuts at qs row) (cuts_out n (suc i) at ps es t qs row p q x.1) (λ cs z. (subst (λ k. w.1 ≤ k) x.0 w.3, z))))
   cuts_out n i at (part.Slice true false ∷ ps) (term_and e es) (Level d t) (Pick_slice a b ∷ qs) h p q x = absurd x
   cuts_out n i at (part.Slice true false ∷ ps) (term_and e es) (Level d t) qs h p q x = absurd q
   cuts_out n i at (part.Slice true false ∷ ps) es t qs h p q x = absurd p
   cuts_out n i at (part.Slice true true ∷ ps) (term_and e (term_and f es)) (Level d t) (Pick_slice a b ∷ qs) (Array_shape l row) p q x =
-      out_then (λ c. (i : ℕ) × (j : ℕ) × (c ≡ Cut_slice i j) × (j ≤ l)) (Cuts_of (part.Slice true true ∷ ps) (Level d t)) (slice_cut at l (or_else (pos 0) a) (or_else (pos l) b)) (λ c. and_then (cuts at qs row) (λ cs. Val (c ∷ cs))) (within at l (or_else (pos 0) a) (or_else (pos l) b))
-      (λ c w. subst (λ z. Out_fits (Cuts_of (part.Slice true true ∷ ps) (Level d t)) (and_then (cuts at qs row) (λ cs. Val (z ∷ cs)))) (sym w.2) (and_cut (part.Slice true true) ps d t (Cut_slice w.0 w.1) (cuts at qs row) (cuts_out n (suc i) at ps es t qs row p q x.1) (λ cs z. (subst (λ k. w.1 ≤ k) x.0 w.3, z))))
+      out_then _ (λ c. (i : ℕ) × (j : ℕ) × (c ≡ Cut_slice i j) × (j ≤ l)) (Cuts_of (part.Slice true true ∷ ps) (Level d t)) (slice_cut at l (or_else (pos 0) a) (or_else (pos l) b)) (λ c. and_then (cuts at qs row) (λ cs. Val (c ∷ cs))) (within at l (or_else (pos 0) a) (or_else (pos l) b))
+      (λ c w. subst (λ z. Out_fits (There W.is_there) (Cuts_of (part.Slice true true ∷ ps) (Level d t)) (and_then (cuts at qs row) (λ cs. Val (z ∷ cs)))) (sym w.2) (and_cut (part.Slice true true) ps d t (Cut_slice w.0 w.1) (cuts at qs row) (cuts_out n (suc i) at ps es t qs row p q x.1) (λ cs z. (subst (λ k. w.1 ≤ k) x.0 w.3, z))))
   cuts_out n i at (part.Slice true true ∷ ps) (term_and e (term_and f es)) (Level d t) (Pick_slice a b ∷ qs) h p q x = absurd x
   cuts_out n i at (part.Slice true true ∷ ps) (term_and e (term_and f es)) (Level d t) qs h p q x = absurd q
   cuts_out n i at (part.Slice true true ∷ ps) es t qs h p q x = absurd p
@@ -278,19 +282,19 @@ module _ (N : Names) (types : Sub) (τ : Meant) (W : World) (S : Sound N types W
     shape_cut i (part.Backwards ∷ ps) es t cs h p c k a x = absurd p
 
     -- an array of rows that are cut
-    cut_rows : (e : Dim) (t u : Size) (cs : List Cut) (row : Shape) (ds : List Datum) (l : ℕ) → length ds ≡ l → l ≡ number (at_node n F m) no_frames e → Every (Has_datum N τ m no_frames t) ds → ((d : Datum) → Has_datum N τ m no_frames t d → Out_fits (Has_datum N τ (at_node n F m) no_frames u) (cut cs d)) → Has_shape N τ (at_node n F m) no_frames u row
-        → Out_fits (Has_datum N τ (at_node n F m) no_frames (Level e u)) (and_then (each_out (cut cs) ds) (λ ys. Val (Array_datum row (datums ys))))
+    cut_rows : (e : Dim) (t u : Size) (cs : List Cut) (row : Shape) (ds : List Datum) (l : ℕ) → length ds ≡ l → l ≡ number (at_node n F m) no_frames e → Every (Has_datum N τ m no_frames t) ds → ((d : Datum) → Has_datum N τ m no_frames t d → Out_fits (There W.is_there) (Has_datum N τ (at_node n F m) no_frames u) (cut cs d)) → Has_shape N τ (at_node n F m) no_frames u row
+        → Out_fits (There W.is_there) (Has_datum N τ (at_node n F m) no_frames (Level e u)) (and_then (each_out (cut cs) ds) (λ ys. Val (Array_datum row (datums ys))))
     unfolding Has_datum
-    cut_rows e t u cs row ds l long is all go shaped = out_then (λ ys. Every (Has_datum N τ (at_node n F m) no_frames u) ys × (length ys ≡ length ds)) (Has_datum N τ (at_node n F m) no_frames (Level e u)) (each_out (cut cs) ds) (λ ys. Val (Array_datum row (datums ys)))
-        (each_out_fits (Has_datum N τ m no_frames t) (Has_datum N τ (at_node n F m) no_frames u) (cut cs) go ds all)
+    cut_rows e t u cs row ds l long is all go shaped = out_then _ (λ ys. Every (Has_datum N τ (at_node n F m) no_frames u) ys × (length ys ≡ length ds)) (Has_datum N τ (at_node n F m) no_frames (Level e u)) (each_out (cut cs) ds) (λ ys. Val (Array_datum row (datums ys)))
+        (each_out_fits _ (Has_datum N τ m no_frames t) (Has_datum N τ (at_node n F m) no_frames u) (cut cs) go ds all)
         (λ ys q. (ap length (same_list ys) ∙ q.1 ∙ long ∙ is, shaped, listed_every (Has_datum N τ (at_node n F m) no_frames u) ys q.0))
 
-    datum_cut : (i : ℕ) (ps : List Part) (es : Terms Ref BindId) (t : Size) (cs : List Cut) (d : Datum) → Slices ps es t → Cuts_of ps t cs → Cut_sizes i cs ps es → Each (Scoped (Out_beyond N types τ W n (1 + n))) 0 t → Has_datum N τ m no_frames t d → Out_fits (Has_datum N τ (at_node n F m) no_frames (indexed n i ps es t)) (cut cs d)
+    datum_cut : (i : ℕ) (ps : List Part) (es : Terms Ref BindId) (t : Size) (cs : List Cut) (d : Datum) → Slices ps es t → Cuts_of ps t cs → Cut_sizes i cs ps es → Each (Scoped (Out_beyond N types τ W n (1 + n))) 0 t → Has_datum N τ m no_frames t d → Out_fits (There W.is_there) (Has_datum N τ (at_node n F m) no_frames (indexed n i ps es t)) (cut cs d)
     unfolding Cuts_of Has_datum indexed Each cut
     datum_cut i [] es t [] y p c k a x = datum_same (Out_beyond N types τ W n (1 + n)) m (at_node n F m) N τ (λ d o. sym (still d o)) t 0 no_frames no_frames a (λ j i l. refl) y x
     datum_cut i [] es t (c0 ∷ cs) y p c k a x = absurd c
     datum_cut i (part.At ∷ ps) (term_and e es) (Level d t) (Cut_at z ∷ cs) (Array_datum row ds) p c k a x =
-        row_there (Has_datum N τ m no_frames t) (Has_datum N τ (at_node n F m) no_frames (indexed n i ps es t)) (listed ds) z (cut cs) (every_listed (Has_datum N τ m no_frames t) ds x.2) (λ y hy. datum_cut i ps es t cs y p c k a.1 hy)
+        row_there _ (Has_datum N τ m no_frames t) (Has_datum N τ (at_node n F m) no_frames (indexed n i ps es t)) (listed ds) z (cut cs) (every_listed (Has_datum N τ m no_frames t) ds x.2) (λ y hy. datum_cut i ps es t cs y p c k a.1 hy)
     datum_cut i (part.At ∷ ps) (term_and e es) (Level d t) (Cut_at z ∷ cs) y p c k a x = absurd x
     datum_cut i (part.At ∷ ps) (term_and e es) (Level d t) cs y p c k a x = absurd c
     datum_cut i (part.At ∷ ps) es t cs y p c k a x = absurd p
@@ -339,35 +343,35 @@ module _ (N : Names) (types : Sub) (τ : Meant) (W : World) (S : Sound N types W
   abbrev Sliced : ℕ → Size → Datum → Type 0
   Sliced lo u y = (F : ℕ → ℕ) × Has_datum N τ (at_node lo F m) no_frames u y
 
-  out_both : {A : Type 0} (P Q : A → Type 0) (o : Out A) → Out_fits P o → Out_fits Q o → Out_fits (λ a. P a × Q a) o
+  out_both : {A : Type 0} (P Q : A → Type 0) (o : Out A) → Out_fits (There W.is_there) P o → Out_fits (There W.is_there) Q o → Out_fits (There W.is_there) (λ a. P a × Q a) o
   out_both P Q (Val a) h k = (h, k)
-  out_both P Q (Fail r) h k = tt
+  out_both P Q (Fail r) h k = h
   out_both P Q Wrong h k = tt
 
   sliced_out : (mark : Place) (lo : ℕ) (ps : List Part) (es : Terms Ref BindId) (at : ℕ) (t : Size) (d : Datum) (is : List Datum) → Slices ps es t → Slice_sizes N types W lo 0 ps es at → Each (Scoped (Out_beyond N types τ W lo (1 + lo))) 0 t → Has_datum N τ m no_frames t d
-      → Out_fits (λ zs. Exacts N types τ W S one m zs es at) (each_out exact_of is) → Out_fits (Sliced lo (indexed lo 0 ps es t)) (indexed_data mark ps d is)
+      → Out_fits (There W.is_there) (λ zs. Exacts N types τ W S one m zs es at) (each_out exact_of is) → Out_fits (There W.is_there) (Sliced lo (indexed lo 0 ps es t)) (indexed_data mark ps d is)
   unfolding indexed_data
   sliced_out mark lo ps es at t d is p sizes a h exact =
-      out_then (λ zs. Exacts N types τ W S one m zs es at) (Sliced lo (indexed lo 0 ps es t)) (each_out exact_of is) (λ zs. and_then (picks ps zs) (λ qs. and_then (cuts mark qs (shape_of d)) (λ cs. and_then (cut cs d) (within_weight mark)))) exact
-      (λ zs z. out_then (λ qs. Picked ps qs × Picks_known N types τ W S one m qs ps es at) (Sliced lo (indexed lo 0 ps es t)) (picks ps zs) (λ qs. and_then (cuts mark qs (shape_of d)) (λ cs. and_then (cut cs d) (within_weight mark)))
-      (out_both (Picked ps) (λ qs. Picks_known N types τ W S one m qs ps es at) (picks ps zs) (picked ps zs) (picks_known N types τ W S one m ps es at zs z))
-      (λ qs q. out_then (λ cs. Cuts_of ps t cs × Cuts_known N types τ W S one m cs ps es at) (Sliced lo (indexed lo 0 ps es t)) (cuts mark qs (shape_of d)) (λ cs. and_then (cut cs d) (within_weight mark))
+      out_then _ (λ zs. Exacts N types τ W S one m zs es at) (Sliced lo (indexed lo 0 ps es t)) (each_out exact_of is) (λ zs. and_then (picks ps zs) (λ qs. and_then (cuts mark qs (shape_of d)) (λ cs. and_then (cut cs d) (within_weight mark)))) exact
+      (λ zs z. out_then _ (λ qs. Picked ps qs × Picks_known N types τ W S one m qs ps es at) (Sliced lo (indexed lo 0 ps es t)) (picks ps zs) (λ qs. and_then (cuts mark qs (shape_of d)) (λ cs. and_then (cut cs d) (within_weight mark)))
+      (out_both (Picked ps) (λ qs. Picks_known N types τ W S one m qs ps es at) (picks ps zs) (picked _ ps zs) (picks_known N types τ W S one m ps es at zs z))
+      (λ qs q. out_then _ (λ cs. Cuts_of ps t cs × Cuts_known N types τ W S one m cs ps es at) (Sliced lo (indexed lo 0 ps es t)) (cuts mark qs (shape_of d)) (λ cs. and_then (cut cs d) (within_weight mark))
       (out_both (Cuts_of ps t) (λ cs. Cuts_known N types τ W S one m cs ps es at) (cuts mark qs (shape_of d)) (cuts_out lo 0 mark ps es t qs (shape_of d) p q.0 (datum_shaped N τ m no_frames t d h)) (cuts_known N types τ W S one m mark ps es at qs (shape_of d) q.1))
       (λ cs c. let F : ℕ → ℕ = nth (counts cs) in
-      out_then (Has_datum N τ (at_node lo F m) no_frames (indexed lo 0 ps es t)) (Sliced lo (indexed lo 0 ps es t)) (cut cs d) (within_weight mark)
+      out_then _ (Has_datum N τ (at_node lo F m) no_frames (indexed lo 0 ps es t)) (Sliced lo (indexed lo 0 ps es t)) (cut cs d) (within_weight mark)
       (datum_cut lo F 0 ps es t cs d p c.0 (cut_sizes lo F 0 ps es at t cs p sizes c.0 c.1 (counted F 0 cs (λ k. ap F (let z : k + 0 ≡ k = omega arith in z)))) a h)
-      (λ y hy. checked_out (Sliced lo (indexed lo 0 ps es t)) (nat_le (weight (shape_of y)) most_words) kind.TooLarge mark (Val y) (F, hy)))))
+      (λ y hy. checked_out _ (Sliced lo (indexed lo 0 ps es t)) (nat_le (weight (shape_of y)) most_words) kind.TooLarge mark (too_large W.is_there mark) (Val y) (F, hy)))))
 
   record First_is (es : Terms Ref BindId) (at : ℕ) (t : Size) (ds : List Datum) : Type 0 where
     first : Datum
     indices : List Datum
     all : ds ≡ first ∷ indices
     has_type : Has_datum N τ m no_frames t first
-    exact : Out_fits (λ zs. Exacts N types τ W S one m zs es at) (each_out exact_of indices)
+    exact : Out_fits (There W.is_there) (λ zs. Exacts N types τ W S one m zs es at) (each_out exact_of indices)
 
   pub slices_fit : (ps : List Part) (mark : Place) (x : FlatTerm) (es : Terms Ref BindId) (lo : ℕ) (env : FlatEnv) (vs : List FlatValue) → Data (s (lo + 1)) → Slices ps es (s (lo + 1)) → Slice_sizes N types W lo 0 ps es (lo + 1 + numbers x) → Each (Scoped (Out_beyond N types τ W lo (1 + lo))) 0 (s (lo + 1))
-      → Part_words N types τ W S one m (term_and x es) (lo + 1) vs → All_fit N τ W.sizing (calls W) m no_frames (parts (term_and x es) (lo + 1)) (values vs) → operation N types (Index ps) lo (lo + 1) (term_and x es) (parts (term_and x es) (lo + 1)) ≡ Ok (s lo)
-      → Gives (Res N types τ W lo (1 + lo) m (s lo)) (operated false (row_told ((flat_names (told W)).lang W.tops) (Of_literal env lo)) (fits_type ((flat_names (told W)).lang W.tops) env lo) (W.integer_at lo) (Index ps) mark vs)
+      → Part_words N types τ W S one m (term_and x es) (lo + 1) vs → All_fit N τ W.sizing W.is_there (calls W) m no_frames (parts (term_and x es) (lo + 1)) (values vs) → operation N types (Index ps) lo (lo + 1) (term_and x es) (parts (term_and x es) (lo + 1)) ≡ Ok (s lo)
+      → Gives (There W.is_there) (Res N types τ W lo (1 + lo) m (s lo)) (operated false (row_told ((flat_names (told W)).lang W.tops) (Of_literal env lo)) (fits_type ((flat_names (told W)).lang W.tops) env lo) (W.integer_at lo) (Index ps) mark vs)
   unfolding All_fit operation made
   slices_fit ps mark x es lo env [] d p sizes a w h e = absurd h
   slices_fit ps mark x es lo env (v ∷ ws) dt p sizes a w h e =
@@ -375,15 +379,15 @@ module _ (N : Names) (types : Sub) (τ : Meant) (W : World) (S : Sound N types W
       let at : ℕ = lo + 1 + numbers x in
       let u : Size = indexed lo 0 ps es (s (lo + 1)) in
       gives_then (First_is es at t) (Res N types τ W lo (1 + lo) m (s lo)) _ _
-      (gives_exact (First_is es at t) 0 _ (out_then (Has_datum N τ m no_frames t) (First_is es at t) (datum_of v) _
-      (out_of (Has_datum N τ m no_frames t) (datum_of v) (λ d q. fits_datum N τ W.sizing (calls W) m no_frames t dt v d q h.0))
-      (λ d hd. out_then (λ is. Out_fits (λ zs. Exacts N types τ W S one m zs es at) (each_out exact_of is)) (First_is es at t) (all_data ws) (λ is. Val (d ∷ is)) (exacts N types τ W S one m es at ws w.1 h.1) (λ is z. record { first = d; indices = is; all = refl; has_type = hd; exact = z }))))
-      (λ ds q. subst (λ z. Gives (Res N types τ W lo (1 + lo) m (s lo)) (Then (the (made false (row_told ((flat_names (told W)).lang W.tops) (Of_literal env lo)) (Make_index ps) mark z)) (λ r. gives r.0 (as_value r.1)))) (sym q.all)
+      (gives_exact _ (First_is es at t) 0 _ (out_then _ (Has_datum N τ m no_frames t) (First_is es at t) (datum_of v) _
+      (out_of _ (Has_datum N τ m no_frames t) (datum_of v) (datum_fine W.is_there v) (λ d q. fits_datum N τ W.sizing W.is_there (calls W) m no_frames t dt v d q h.0))
+      (λ d hd. out_then _ (λ is. Out_fits (There W.is_there) (λ zs. Exacts N types τ W S one m zs es at) (each_out exact_of is)) (First_is es at t) (all_data ws) (λ is. Val (d ∷ is)) (exacts N types τ W S one m es at ws w.1 h.1) (λ is z. record { first = d; indices = is; all = refl; has_type = hd; exact = z }))))
+      (λ ds q. subst (λ z. Gives (There W.is_there) (Res N types τ W lo (1 + lo) m (s lo)) (Then (the (made false (row_told ((flat_names (told W)).lang W.tops) (Of_literal env lo)) (Make_index ps) mark z)) (λ r. gives r.0 (as_value r.1)))) (sym q.all)
       (gives_then (λ r. Sliced lo u r.1) (Res N types τ W lo (1 + lo) m (s lo)) _ _
-      (gives_exact (λ r. Sliced lo u r.1) 0 _ (out_then (Sliced lo u) (λ r. Sliced lo u r.1) (indexed_data mark ps q.first q.indices) shared (sliced_out mark lo ps es at t q.first q.indices p sizes a q.has_type q.exact) (λ y hy. hy)))
-      (λ r y. gives_exact (Res N types τ W lo (1 + lo) m (s lo)) r.0 (Val (as_value r.1)) (record {
+      (gives_exact _ (λ r. Sliced lo u r.1) 0 _ (out_then _ (Sliced lo u) (λ r. Sliced lo u r.1) (indexed_data mark ps q.first q.indices) shared (sliced_out mark lo ps es at t q.first q.indices p sizes a q.has_type q.exact) (λ y hy. hy)))
+      (λ r y. gives_exact _ (Res N types τ W lo (1 + lo) m (s lo)) r.0 (Val (as_value r.1)) (record {
         now = at_node lo y.0 m;
         old = λ d o. beyond_node N types τ W lo y.0 m d o;
-        fits = subst (λ w. Fits N τ W.sizing (calls W) (at_node lo y.0 m) no_frames w (as_value r.1)) (same_ok u (s lo) e)
-            (datum_fits N τ W.sizing (calls W) (at_node lo y.0 m) no_frames u (left_data lo 0 ps es t p dt) (as_value r.1) r.1 (datum_of_as Ref BindId (Unit {0}) r.1) y.1);
+        fits = subst (λ w. Fits N τ W.sizing W.is_there (calls W) (at_node lo y.0 m) no_frames w (as_value r.1)) (same_ok u (s lo) e)
+            (datum_fits N τ W.sizing W.is_there (calls W) (at_node lo y.0 m) no_frames u (left_data lo 0 ps es t p dt) (as_value r.1) r.1 (datum_of_as Ref BindId (Unit {0}) r.1) y.1);
       }))))

@@ -1,4 +1,6 @@
 -- A value of a type that suits another is of the other.
+use Rattle.fut_scalar.specs.declared.place.Place.{Place}
+use Rattle.sized_meaning.specs.There.{There}
 use Rattle.std.proofs.Common.{◌≡◌, ◌⊎◌, ℕ, zero, suc, ◌<◌, ◌≤◌, List, [], ◌∷◌, Bool, true, false, cond, nat_eq, Ok, Err, refl, sym, ap, ◌∙◌, subst, arith, inl, inr, eqb-true, eq-eqb}
 use Rattle.std.proofs.lemmas.Bool.{eqb-false, ne_eqb}
 use Rattle.fut_typing.specs.Names.{Names}
@@ -250,22 +252,22 @@ module _ (N : Names) (τ : Meant) where
       there : (F : ℕ → ℕ) → Told_right N τ (at_node n F m) no_frames (Fun k p r) tell
       there F = told_same (Free_of n) m (at_node n F m) N τ (λ d o. sym (node_else n F m d o)) (Fun k p r) 0 no_frames no_frames z (λ j i l. refl) tell x
 
-module _ (N : Names) (τ : Meant) (Z : Sizing) (calls : FlatValue → FlatValue → Rel FlatValue) where
+module _ (N : Names) (τ : Meant) (Z : Sizing) (is_there : Place → Bool) (calls : FlatValue → FlatValue → Rel FlatValue) where
   abbrev Takes_to : Worth → ℕ → Size → Size → FlatValue → Type 0
-  Takes_to m k p r h = (F : ℕ → ℕ) (v : FlatValue) → F k ≡ word v → Fits N τ Z calls m (push F no_frames) p v
-      → Gives (λ w. (F' : ℕ → ℕ) × ((i : ℕ) → i ≤ k → F' i ≡ F i) × Fits N τ Z calls m (push F' no_frames) r w) (calls h v)
+  Takes_to m k p r h = (F : ℕ → ℕ) (v : FlatValue) → F k ≡ word v → Fits N τ Z is_there calls m (push F no_frames) p v
+      → Gives (There is_there) (λ w. (F' : ℕ → ℕ) × ((i : ℕ) → i ≤ k → F' i ≡ F i) × Fits N τ Z is_there calls m (push F' no_frames) r w) (calls h v)
 
-  pub function_of : (m : Worth) (k : ℕ) (p r : Size) (h : FlatValue) → Fits N τ Z calls m no_frames (Fun k p r) h → Tells_right N τ Z m no_frames k p r h × Takes_to m k p r h
+  pub function_of : (m : Worth) (k : ℕ) (p r : Size) (h : FlatValue) → Fits N τ Z is_there calls m no_frames (Fun k p r) h → Tells_right N τ Z m no_frames k p r h × Takes_to m k p r h
   unfolding Fits
   function_of m k p r h fits = fits
 
-  pub a_function : (m : Worth) (k : ℕ) (p r : Size) (h : FlatValue) → Tells_right N τ Z m no_frames k p r h → Takes_to m k p r h → Fits N τ Z calls m no_frames (Fun k p r) h
+  pub a_function : (m : Worth) (k : ℕ) (p r : Size) (h : FlatValue) → Tells_right N τ Z m no_frames k p r h → Takes_to m k p r h → Fits N τ Z is_there calls m no_frames (Fun k p r) h
   unfolding Fits
   a_function m k p r h told fits = (told, fits)
 
   module _ (k : ℕ) (p r : Size) (k' : ℕ) (p' r' : Size) (n n' : ℕ) (δ ρ : ℕ → Free) (I : Instance k p r k' p' r' n n' δ ρ) (a : Suits (opened ρ p') (opened δ p)) (b : Suits (opened δ r) (opened ρ r'))
-      (parameters : (m : Worth) (v : FlatValue) → Fits N τ Z calls m no_frames (opened ρ p') v → Fits N τ Z calls m no_frames (opened δ p) v) (results : (m : Worth) (v : FlatValue) → Fits N τ Z calls m no_frames (opened δ r) v → Fits N τ Z calls m no_frames (opened ρ r') v)
-      (m : Worth) (h : FlatValue) (there : (F' : ℕ → ℕ) → Fits N τ Z calls (at_node n F' m) no_frames (Fun k p r) h) where
+      (parameters : (m : Worth) (v : FlatValue) → Fits N τ Z is_there calls m no_frames (opened ρ p') v → Fits N τ Z is_there calls m no_frames (opened δ p) v) (results : (m : Worth) (v : FlatValue) → Fits N τ Z is_there calls m no_frames (opened δ r) v → Fits N τ Z is_there calls m no_frames (opened ρ r') v)
+      (m : Worth) (h : FlatValue) (there : (F' : ℕ → ℕ) → Fits N τ Z is_there calls (at_node n F' m) no_frames (Fun k p r) h) where
     chosen : (F' : ℕ → ℕ) (i : ℕ) → i < k' → F' i ≡ free (at_node n F' m) (ρ i)
     chosen F' i l = choices N τ k p r k' p' r' n n' δ ρ I a b m F' i l
 
@@ -280,7 +282,7 @@ module _ (N : Names) (τ : Meant) (Z : Sizing) (calls : FlatValue → FlatValue 
     told_there : Tells_right N τ Z m no_frames k' p' r' h
     told_there = ((function_of (at_node n (λ i. 0) m) k p r h (there (λ i. 0))).0.0, told_right)
 
-    module _ (F' : ℕ → ℕ) (v : FlatValue) (e : F' k' ≡ word v) (argument : Fits N τ Z calls m (push F' no_frames) p' v) where
+    module _ (F' : ℕ → ℕ) (v : FlatValue) (e : F' k' ≡ word v) (argument : Fits N τ Z is_there calls m (push F' no_frames) p' v) where
       frame : ℕ → ℕ
       frame i = cond (nat_eq i k) (word v) (free (at_node n F' m) (δ i))
 
@@ -292,12 +294,12 @@ module _ (N : Names) (τ : Meant) (Z : Sizing) (calls : FlatValue → FlatValue 
       unfolding frame
       frame_before i l = ap (λ b. cond b (word v) (free (at_node n F' m) (δ i))) (ne_eqb i k (λ z. omega (arith, l, z)))
 
-      argument_there : Fits N τ Z calls (at_node n F' m) (push frame no_frames) p v
-      argument_there = opened_fits N τ (at_node n F' m) δ (λ i. i < k) (Free_of n') frame p I.low (found_parts k p r k' p' r' n n' δ ρ I).0 frame_before Z calls no_frames no_frames v
-          (parameters (at_node n F' m) v (fits_opened N τ (at_node n F' m) ρ (λ i. i < k') (Free_of n) F' p' I.wanted_low (wanted_parts k p r k' p' r' n n' δ ρ I).0 (chosen F') Z calls no_frames no_frames v
-          (fits_same (Free_of n) m (at_node n F' m) N τ Z calls (λ d o. sym (node_else n F' m d o)) p' 1 (push F' no_frames) (push F' no_frames) (wanted_parts k p r k' p' r' n n' δ ρ I).0 (λ j i l. refl) v argument)))
+      argument_there : Fits N τ Z is_there calls (at_node n F' m) (push frame no_frames) p v
+      argument_there = opened_fits N τ (at_node n F' m) δ (λ i. i < k) (Free_of n') frame p I.low (found_parts k p r k' p' r' n n' δ ρ I).0 frame_before Z is_there calls no_frames no_frames v
+          (parameters (at_node n F' m) v (fits_opened N τ (at_node n F' m) ρ (λ i. i < k') (Free_of n) F' p' I.wanted_low (wanted_parts k p r k' p' r' n n' δ ρ I).0 (chosen F') Z is_there calls no_frames no_frames v
+          (fits_same (Free_of n) m (at_node n F' m) N τ Z is_there calls (λ d o. sym (node_else n F' m d o)) p' 1 (push F' no_frames) (push F' no_frames) (wanted_parts k p r k' p' r' n n' δ ρ I).0 (λ j i l. refl) v argument)))
 
-      module _ (F2 : ℕ → ℕ) (agrees : (i : ℕ) → i ≤ k → F2 i ≡ frame i) (w : FlatValue) (result : Fits N τ Z calls (at_node n F' m) (push F2 no_frames) r w) where
+      module _ (F2 : ℕ → ℕ) (agrees : (i : ℕ) → i ≤ k → F2 i ≡ frame i) (w : FlatValue) (result : Fits N τ Z is_there calls (at_node n F' m) (push F2 no_frames) r w) where
         other : Free_of n' (Unknown n k')
         other = λ z. I.two z
 
@@ -321,13 +323,13 @@ module _ (N : Names) (τ : Meant) (Z : Sizing) (calls : FlatValue → FlatValue 
             by_test true q = subst (λ j. F2 j ≡ free (at_node n' F2 (at_node n F' m)) (δ j)) (sym (eqb-true i k q)) at_value
             by_test false q = before_or_after (in_order i k (eqb-false i k q))
 
-        back_to : Fits N τ Z calls m (push (λ i. free (at_node n' F2 (at_node n F' m)) (ρ i)) no_frames) r' w
-        back_to = fits_same (Free_of n) (at_node n F' m) m N τ Z calls (λ d o. node_else n F' m d o) r' 1 _ _ (wanted_parts k p r k' p' r' n n' δ ρ I).1 (λ j i l. refl) w
-            (fits_same (Free_of n') (at_node n' F2 (at_node n F' m)) (at_node n F' m) N τ Z calls (λ d o. node_else n' F2 (at_node n F' m) d o) r' 1 _ _ (wanted_parts2 k p r k' p' r' n n' δ ρ I).1 (λ j i l. refl) w
-            (opened_fits N τ (at_node n' F2 (at_node n F' m)) ρ Any_position (Free_of n) (λ i. free (at_node n' F2 (at_node n F' m)) (ρ i)) r' (each_as (Scoped (Free_of n)) (Of_positions Any_position) (any_position (Free_of n)) r' 1 (wanted_parts k p r k' p' r' n n' δ ρ I).1) (wanted_parts k p r k' p' r' n n' δ ρ I).1 (λ i u. refl) Z calls no_frames no_frames w
+        back_to : Fits N τ Z is_there calls m (push (λ i. free (at_node n' F2 (at_node n F' m)) (ρ i)) no_frames) r' w
+        back_to = fits_same (Free_of n) (at_node n F' m) m N τ Z is_there calls (λ d o. node_else n F' m d o) r' 1 _ _ (wanted_parts k p r k' p' r' n n' δ ρ I).1 (λ j i l. refl) w
+            (fits_same (Free_of n') (at_node n' F2 (at_node n F' m)) (at_node n F' m) N τ Z is_there calls (λ d o. node_else n' F2 (at_node n F' m) d o) r' 1 _ _ (wanted_parts2 k p r k' p' r' n n' δ ρ I).1 (λ j i l. refl) w
+            (opened_fits N τ (at_node n' F2 (at_node n F' m)) ρ Any_position (Free_of n) (λ i. free (at_node n' F2 (at_node n F' m)) (ρ i)) r' (each_as (Scoped (Free_of n)) (Of_positions Any_position) (any_position (Free_of n)) r' 1 (wanted_parts k p r k' p' r' n n' δ ρ I).1) (wanted_parts k p r k' p' r' n n' δ ρ I).1 (λ i u. refl) Z is_there calls no_frames no_frames w
             (results (at_node n' F2 (at_node n F' m)) w
-            (fits_opened N τ (at_node n' F2 (at_node n F' m)) δ Any_position (Free_of n') F2 r (each_as (Scoped (Free_of n')) (Of_positions Any_position) (any_position (Free_of n')) r 1 (found_parts k p r k' p' r' n n' δ ρ I).1) (found_parts k p r k' p' r' n n' δ ρ I).1 positions Z calls no_frames no_frames w
-            (fits_same (Free_of n') (at_node n F' m) (at_node n' F2 (at_node n F' m)) N τ Z calls (λ d o. sym (node_else n' F2 (at_node n F' m) d o)) r 1 (push F2 no_frames) (push F2 no_frames) (found_parts k p r k' p' r' n n' δ ρ I).1 (λ j i l. refl) w result)))))
+            (fits_opened N τ (at_node n' F2 (at_node n F' m)) δ Any_position (Free_of n') F2 r (each_as (Scoped (Free_of n')) (Of_positions Any_position) (any_position (Free_of n')) r 1 (found_parts k p r k' p' r' n n' δ ρ I).1) (found_parts k p r k' p' r' n n' δ ρ I).1 positions Z is_there calls no_frames no_frames w
+            (fits_same (Free_of n') (at_node n F' m) (at_node n' F2 (at_node n F' m)) N τ Z is_there calls (λ d o. sym (node_else n' F2 (at_node n F' m) d o)) r 1 (push F2 no_frames) (push F2 no_frames) (found_parts k p r k' p' r' n n' δ ρ I).1 (λ j i l. refl) w result)))))
 
         same_choice : (i : ℕ) → i ≤ k' → free (at_node n' F2 (at_node n F' m)) (ρ i) ≡ F' i
         same_choice i l = by_test (nat_eq i k') refl
@@ -340,28 +342,28 @@ module _ (N : Names) (τ : Meant) (Z : Sizing) (calls : FlatValue → FlatValue 
             by_test true q = subst (λ j. free (at_node n' F2 (at_node n F' m)) (ρ j) ≡ F' j) (sym (eqb-true i k' q)) (ap (free (at_node n' F2 (at_node n F' m))) I.argument ∙ worth_here)
             by_test false q = below (in_order i k' (eqb-false i k' q))
 
-      instance_gives : Gives (λ w. (F'' : ℕ → ℕ) × ((i : ℕ) → i ≤ k' → F'' i ≡ F' i) × Fits N τ Z calls m (push F'' no_frames) r' w) (calls h v)
+      instance_gives : Gives (There is_there) (λ w. (F'' : ℕ → ℕ) × ((i : ℕ) → i ≤ k' → F'' i ≡ F' i) × Fits N τ Z is_there calls m (push F'' no_frames) r' w) (calls h v)
       instance_gives = gives_as _ _ (calls h v) ((function_of (at_node n F' m) k p r h (there F')).1 frame v frame_value argument_there) (λ w q. ((λ i. free (at_node n' q.0 (at_node n F' m)) (ρ i)), same_choice q.0 q.1 w q.2, back_to q.0 q.1 w q.2))
 
-    pub instance_fits : Fits N τ Z calls m no_frames (Fun k' p' r') h
+    pub instance_fits : Fits N τ Z is_there calls m no_frames (Fun k' p' r') h
     instance_fits = a_function m k' p' r' h told_there (λ F v e g. instance_gives F v e g)
 
   mutual
     unfolding Fits All_fit Named_fit
 
-    pub suits_fits : {t u : Size} → Suits t u → (m : Worth) (v : FlatValue) → Fits N τ Z calls m no_frames t v → Fits N τ Z calls m no_frames u v
+    pub suits_fits : {t u : Size} → Suits t u → (m : Worth) (v : FlatValue) → Fits N τ Z is_there calls m no_frames t v → Fits N τ Z is_there calls m no_frames u v
     suits_fits suits_same m v h = h
-    suits_fits (suits_parts {h} {ts} {us} q) m v x = of_head_goes h (All_fit N τ Z calls m no_frames ts) (All_fit N τ Z calls m no_frames us) (λ n. Named_fit N τ Z calls m no_frames n 0 ts) (λ n. Named_fit N τ Z calls m no_frames n 0 us) (λ vs g. all_suit_fit q m vs g) (λ n fs g. named_suit_fit q m n 0 fs g) v x
+    suits_fits (suits_parts {h} {ts} {us} q) m v x = of_head_goes h (All_fit N τ Z is_there calls m no_frames ts) (All_fit N τ Z is_there calls m no_frames us) (λ n. Named_fit N τ Z is_there calls m no_frames n 0 ts) (λ n. Named_fit N τ Z is_there calls m no_frames n 0 us) (λ vs g. all_suit_fit q m vs g) (λ n fs g. named_suit_fit q m n 0 fs g) v x
     suits_fits (suits_function {k} {l} {p} {r} {q} {s} n n' δ ρ I z a b) m h fits = instance_fits k p r l q s n n' δ ρ I a b (λ m v x. suits_fits a m v x) (λ m v x. suits_fits b m v x) m h
-        (λ F'. fits_same (Free_of n) m (at_node n F' m) N τ Z calls (λ d o. sym (node_else n F' m d o)) (Fun k p r) 0 no_frames no_frames z (λ j i l. refl) h fits)
+        (λ F'. fits_same (Free_of n) m (at_node n F' m) N τ Z is_there calls (λ d o. sym (node_else n F' m d o)) (Fun k p r) 0 no_frames no_frames z (λ j i l. refl) h fits)
 
-    all_suit_fit : {ts us : Sizes} → All_suit ts us → (m : Worth) (vs : FlatValues) → All_fit N τ Z calls m no_frames ts vs → All_fit N τ Z calls m no_frames us vs
+    all_suit_fit : {ts us : Sizes} → All_suit ts us → (m : Worth) (vs : FlatValues) → All_fit N τ Z is_there calls m no_frames ts vs → All_fit N τ Z is_there calls m no_frames us vs
     all_suit_fit suit_none m vs h = h
     all_suit_fit (suit_more q qs) m vs h = first_value_goes _ _ _ _ (λ v x. suits_fits q m v x) (λ vs x. all_suit_fit qs m vs x) vs h
 
-    named_suit_fit : {ts us : Sizes} → All_suit ts us → (m : Worth) (n i : ℕ) (fs : FlatFields) → Named_fit N τ Z calls m no_frames n i ts fs → Named_fit N τ Z calls m no_frames n i us fs
+    named_suit_fit : {ts us : Sizes} → All_suit ts us → (m : Worth) (n i : ℕ) (fs : FlatFields) → Named_fit N τ Z is_there calls m no_frames n i ts fs → Named_fit N τ Z is_there calls m no_frames n i us fs
     named_suit_fit suit_none m n i fs h = h
     named_suit_fit (suit_more q qs) m n i fs h = ((λ f p. let c = h.0 f p in (c.0, c.1, suits_fits q m c.0 c.2)), named_suit_fit qs m n (suc i) fs h.1)
 
 pub suiting_values_fit : SuitingValuesFit
-suiting_values_fit N τ Z L tight budget t u m v q h = suits_fits N (exactly τ) Z (calls_of L tight budget) q m v h
+suiting_values_fit N τ Z L is_there tight budget t u m v q h = suits_fits N (exactly τ) Z is_there (calls_of L tight budget) q m v h

@@ -1,4 +1,6 @@
 -- `zip3`, `unzip3` and `unflatten` are of their sized types.
+use Rattle.std.proofs.Common.{eq-eqb}
+use Rattle.sized_meaning.specs.There.{There}
 use Rattle.sized_meaning.proofs.Scalars.{out_then}
 use Rattle.sized_meaning.proofs.Zipping.{each_out_fits}
 use Rattle.std.specs.Prelude.{map}
@@ -61,7 +63,7 @@ module _ (N : Names) (types : Sub) (τ : Meant) (W : World) (S : Sound N types W
     Zipped ψ H w = Given N types τ W S one m 0 H ψ (Level (Bound 2 0) (triple_size a b c)) w
 
     zip_job : (F G H : ℕ → ℕ) (told : Shape) (d e f : Datum) → Argument_is N types τ W S one m 1 F φ (Level (Bound 0 0) a) d → Argument_is N types τ W S one m 0 G (push F φ) (Level (Bound 1 0) b) e → Argument_is N types τ W S one m 0 H (push G (push F φ)) (Level (Bound 2 0) c) f
-        → Out_fits (Done_with (Met N types τ W S one m 0 H (push G (push F φ)) (Level (Bound 2 0) (triple_size a b c)))) (job false told prim.Zip3 at (d ∷ e ∷ f ∷ []))
+        → Out_fits (There W.is_there) (Done_with (Met N types τ W S one m 0 H (push G (push F φ)) (Level (Bound 2 0) (triple_size a b c)))) (job false told prim.Zip3 at (d ∷ e ∷ f ∷ []))
     unfolding Has_datum Has_shape job push
     zip_job F G H told (Array_datum row ds) (Array_datum row' es) (Array_datum row'' fs) x y z =
         let ψ : Frames = push H (push G (push F φ)) in
@@ -71,15 +73,15 @@ module _ (N : Names) (types : Sub) (τ : Meant) (W : World) (S : Sound N types W
         let q : Every (Has_datum N τ m (push H (push G (push F φ))) b) (listed es) = every_as (Has_datum N τ m (push G (push F φ)) b) (Has_datum N τ m (push H (push G (push F φ))) b) (λ d q. datum_anywhere N types τ W S one m b closed_b (push G (push F φ)) (push H (push G (push F φ))) d q) (listed es) (every_listed (Has_datum N τ m (push G (push F φ)) b) es (y.1).2) in
         let r : Every (Has_datum N τ m (push H (push G (push F φ))) c) (listed fs) = every_listed (Has_datum N τ m (push H (push G (push F φ))) c) fs (z.1).2 in
         let t = triples (Has_datum N τ m (push H (push G (push F φ))) a) (Has_datum N τ m (push H (push G (push F φ))) b) (Has_datum N τ m (push H (push G (push F φ))) c) (Has_datum N τ m (push H (push G (push F φ))) (triple_size a b c)) (λ d e f hd he hf. (hd, (he, (hf, tt)))) (listed ds) (listed es) (listed fs) ((x.1).0 ∙ sym (y.1).0) ((y.1).0 ∙ sym (z.1).0) p q r in
-        both (nat_eq (length (listed ds)) (length (listed es))) (nat_eq (length (listed es)) (length (listed fs)))
+        both (nat_eq (length (listed ds)) (length (listed es))) (nat_eq (length (listed es)) (length (listed fs))) (eq-eqb (length (listed ds)) (length (listed es)) ((x.1).0 ∙ sym (y.1).0)) (eq-eqb (length (listed es)) (length (listed fs)) ((y.1).0 ∙ sym (z.1).0))
         (new_rows N types τ W S one m (triple_size a b c) data_triple closed_triple at (push G (push F φ)) 0 H (Level (Bound 2 0) (triple_size a b c)) (Tuple_shape (shape_and row (shape_and row' (shape_and row'' no_shape)))) (map tupled (beside (listed ds) (beside (listed es) (alone (listed fs)))))
         (rows_met N types τ W S one m (triple_size a b c) data_triple closed_triple at (push G (push F φ)) 0 H (Bound 2 0) (Tuple_shape (shape_and row (shape_and row' (shape_and row'' no_shape)))) (map tupled (beside (listed ds) (beside (listed es) (alone (listed fs))))) (t.1 ∙ (x.1).0) (h, (h', ((z.1).1, tt))) t.0))
       where
-        both : (u v : Bool) → Out_fits (Done_with (Met N types τ W S one m 0 H (push G (push F φ)) (Level (Bound 2 0) (triple_size a b c)))) (done (all_fresh (array_of at (Tuple_shape (shape_and row (shape_and row' (shape_and row'' no_shape)))) (map tupled (beside (listed ds) (beside (listed es) (alone (listed fs))))))))
-            → Out_fits (Done_with (Met N types τ W S one m 0 H (push G (push F φ)) (Level (Bound 2 0) (triple_size a b c)))) (and_then (fitting false u at (and_then (fitting false v at (and_then (Val (alone (listed fs))) (λ rs. Val (beside (listed es) rs)))) (λ rs. Val (beside (listed ds) rs)))) (λ rows. done (all_fresh (array_of at (Tuple_shape (shape_and row (shape_and row' (shape_and row'' no_shape)))) (map tupled rows)))))
-        both true true h = h
-        both true false h = tt
-        both false v h = tt
+        both : (u v : Bool) → u ≡ true → v ≡ true → Out_fits (There W.is_there) (Done_with (Met N types τ W S one m 0 H (push G (push F φ)) (Level (Bound 2 0) (triple_size a b c)))) (done (all_fresh (array_of at (Tuple_shape (shape_and row (shape_and row' (shape_and row'' no_shape)))) (map tupled (beside (listed ds) (beside (listed es) (alone (listed fs))))))))
+            → Out_fits (There W.is_there) (Done_with (Met N types τ W S one m 0 H (push G (push F φ)) (Level (Bound 2 0) (triple_size a b c)))) (and_then (fitting false u at (and_then (fitting false v at (and_then (Val (alone (listed fs))) (λ rs. Val (beside (listed es) rs)))) (λ rs. Val (beside (listed ds) rs)))) (λ rows. done (all_fresh (array_of at (Tuple_shape (shape_and row (shape_and row' (shape_and row'' no_shape)))) (map tupled rows)))))
+        both true true p q h = h
+        both true false p q h = absurd (let z : false ≡ true = q in cc)
+        both false v p q h = absurd (let z : false ≡ true = p in cc)
     zip_job F G H told (Array_datum row ds) (Array_datum row' es) f x y z = absurd z.1
     zip_job F G H told (Array_datum row ds) e f x y z = absurd y.1
     zip_job F G H told d e f x y z = absurd x.1
@@ -92,14 +94,14 @@ module _ (N : Names) (types : Sub) (τ : Meant) (W : World) (S : Sound N types W
     zip_shape F G H (Array_shape n h) g k x y z = absurd y
     zip_shape F G H h g k x y z = absurd x
 
-    pub zip3_fits : Fits N τ W.sizing (calls W) m φ (Fun 1 (Level (Bound 0 0) a) (Fun 0 (Level (Bound 1 0) b) (Fun 0 (Level (Bound 2 0) c) (Level (Bound 2 0) (triple_size a b c))))) (Primitive_value prim.Zip3 at no_value)
+    pub zip3_fits : Fits N τ W.sizing W.is_there (calls W) m φ (Fun 1 (Level (Bound 0 0) a) (Fun 0 (Level (Bound 1 0) b) (Fun 0 (Level (Bound 2 0) c) (Level (Bound 2 0) (triple_size a b c))))) (Primitive_value prim.Zip3 at no_value)
     unfolding plain primitive_tells
     zip3_fits = three_fits N types τ W S one m prim.Zip3 at φ 1 0 0 (Level (Bound 0 0) a) (Level (Bound 1 0) b) (Level (Bound 2 0) c) (Level (Bound 2 0) (triple_size a b c)) (data_array (Bound 0 0) a data_a) (data_array (Bound 1 0) b data_b) (data_array (Bound 2 0) c data_c) (data_array (Bound 2 0) (triple_size a b c) data_triple)
         (λ Q u h. evaluates N types τ W S one Q (Call (Primitive_value prim.Zip3 at no_value) u) h) (λ Q u v h. evaluates N types τ W S one Q (Call (Primitive_value prim.Zip3 at (value_and u no_value)) v) h)
         (λ Q u v w h. evaluates N types τ W S one Q (Call (Primitive_value prim.Zip3 at (value_and u (value_and v no_value))) w) h)
         (λ F G H row d e f x y z. done_gives N types τ W S one m (Met N types τ W S one m 0 H (push G (push F φ)) (Level (Bound 2 0) (triple_size a b c))) (Zipped (push G (push F φ)) H) 0 no_function (job false row prim.Zip3 at (d ∷ e ∷ f ∷ [])) (zip_job F G H row d e f x y z)
-        (λ g q. (q.0, q.1, datum_fits N τ W.sizing (calls W) m (push q.0 (push G (push F φ))) (Level (Bound 2 0) (triple_size a b c)) (data_array (Bound 2 0) (triple_size a b c) data_triple) (as_value g) g (datum_of_as Ref BindId (Unit {0}) g) q.2)))
-        (λ known F h hh G g hg H x hx. zip_shape F G H h g x hh hg hx) (λ F u eu hu known G g hg H x hx. zip_shape F G H (value_shape u) g x (value_shaped N τ W.sizing (calls W) m (push F φ) (Level (Bound 0 0) a) (data_array (Bound 0 0) a data_a) u hu) hg hx)
+        (λ g q. (q.0, q.1, datum_fits N τ W.sizing W.is_there (calls W) m (push q.0 (push G (push F φ))) (Level (Bound 2 0) (triple_size a b c)) (data_array (Bound 2 0) (triple_size a b c) data_triple) (as_value g) g (datum_of_as Ref BindId (Unit {0}) g) q.2)))
+        (λ known F h hh G g hg H x hx. zip_shape F G H h g x hh hg hx) (λ F u eu hu known G g hg H x hx. zip_shape F G H (value_shape u) g x (value_shaped N τ W.sizing W.is_there (calls W) m (push F φ) (Level (Bound 0 0) a) (data_array (Bound 0 0) a data_a) u hu) hg hx)
         (λ F u eu hu G v ev hv. third_tells N types τ W S one m prim.Zip3 at (push G (push F φ)) (push F φ) (push G (push F φ)) 0 (Level (Bound 0 0) a) (Level (Bound 1 0) b) (Level (Bound 2 0) c) (Level (Bound 2 0) (triple_size a b c)) u v (data_array (Bound 0 0) a data_a) (data_array (Bound 1 0) b data_b) hu hv
         (λ H h g k hh hg hk. zip_shape F G H h g k hh hg hk) (data_array (Bound 2 0) (triple_size a b c) data_triple))
 
@@ -109,20 +111,20 @@ module _ (N : Names) (types : Sub) (τ : Meant) (W : World) (S : Sound N types W
     unfolding Data
     data_arrays = (data_a, (data_b, (data_c, tt)))
 
-    first_part : (ψ : Frames) (d : Datum) → Has_datum N τ m ψ (triple_size a b c) d → Out_fits (Has_datum N τ m ψ a) (tuple_part 0 d)
+    first_part : (ψ : Frames) (d : Datum) → Has_datum N τ m ψ (triple_size a b c) d → Out_fits (There W.is_there) (Has_datum N τ m ψ a) (tuple_part 0 d)
     unfolding Has_datum
     first_part ψ (Tuple_datum (datum_and x ds)) h = h.0
     first_part ψ (Tuple_datum no_datum) h = absurd h
     first_part ψ d h = absurd h
 
-    second_part : (ψ : Frames) (d : Datum) → Has_datum N τ m ψ (triple_size a b c) d → Out_fits (Has_datum N τ m ψ b) (tuple_part 1 d)
+    second_part : (ψ : Frames) (d : Datum) → Has_datum N τ m ψ (triple_size a b c) d → Out_fits (There W.is_there) (Has_datum N τ m ψ b) (tuple_part 1 d)
     unfolding Has_datum
     second_part ψ (Tuple_datum (datum_and x (datum_and y ds))) h = h.1.0
     second_part ψ (Tuple_datum (datum_and x no_datum)) h = absurd h.1
     second_part ψ (Tuple_datum no_datum) h = absurd h
     second_part ψ d h = absurd h
 
-    third_part : (ψ : Frames) (d : Datum) → Has_datum N τ m ψ (triple_size a b c) d → Out_fits (Has_datum N τ m ψ c) (tuple_part 2 d)
+    third_part : (ψ : Frames) (d : Datum) → Has_datum N τ m ψ (triple_size a b c) d → Out_fits (There W.is_there) (Has_datum N τ m ψ c) (tuple_part 2 d)
     unfolding Has_datum
     third_part ψ (Tuple_datum (datum_and x (datum_and y (datum_and z ds)))) h = h.1.1.0
     third_part ψ (Tuple_datum (datum_and x (datum_and y no_datum))) h = absurd h.1.1
@@ -142,30 +144,30 @@ module _ (N : Names) (types : Sub) (τ : Meant) (W : World) (S : Sound N types W
     abbrev Columns : Frames → List Datum → Type 0
     Columns ψ es = (x : Datum) × (y : Datum) × (z : Datum) × (es ≡ x ∷ y ∷ z ∷ []) × Has_datum N τ m ψ (Level (Bound 0 0) a) x × Has_datum N τ m ψ (Level (Bound 0 0) b) y × Has_datum N τ m ψ (Level (Bound 0 0) c) z
 
-    three_columns : (ψ : Frames) (r : Rows) → Out_fits (Has_datum N τ m ψ (Level (Bound 0 0) a)) (column 0 r) → Out_fits (Has_datum N τ m ψ (Level (Bound 0 0) b)) (column 1 r) → Out_fits (Has_datum N τ m ψ (Level (Bound 0 0) c)) (column 2 r) → Out_fits (Columns ψ) (each_out (λ k. column k r) (0 ∷ 1 ∷ 2 ∷ []))
+    three_columns : (ψ : Frames) (r : Rows) → Out_fits (There W.is_there) (Has_datum N τ m ψ (Level (Bound 0 0) a)) (column 0 r) → Out_fits (There W.is_there) (Has_datum N τ m ψ (Level (Bound 0 0) b)) (column 1 r) → Out_fits (There W.is_there) (Has_datum N τ m ψ (Level (Bound 0 0) c)) (column 2 r) → Out_fits (There W.is_there) (Columns ψ) (each_out (λ k. column k r) (0 ∷ 1 ∷ 2 ∷ []))
     three_columns ψ r p q t =
-        out_then (Has_datum N τ m ψ (Level (Bound 0 0) a)) (Columns ψ) (column 0 r) (λ x. and_then (each_out (λ k. column k r) (1 ∷ 2 ∷ [])) (λ ys. Val (x ∷ ys))) p
-        (λ x hx. out_then (λ es. (y : Datum) × (z : Datum) × (es ≡ y ∷ z ∷ []) × Has_datum N τ m ψ (Level (Bound 0 0) b) y × Has_datum N τ m ψ (Level (Bound 0 0) c) z) (Columns ψ) (each_out (λ k. column k r) (1 ∷ 2 ∷ [])) (λ ys. Val (x ∷ ys))
-        (out_then (Has_datum N τ m ψ (Level (Bound 0 0) b)) (λ es. (y : Datum) × (z : Datum) × (es ≡ y ∷ z ∷ []) × Has_datum N τ m ψ (Level (Bound 0 0) b) y × Has_datum N τ m ψ (Level (Bound 0 0) c) z) (column 1 r) (λ y. and_then (each_out (λ k. column k r) (2 ∷ [])) (λ ys. Val (y ∷ ys))) q
-        (λ y hy. out_then (λ es. (z : Datum) × (es ≡ z ∷ []) × Has_datum N τ m ψ (Level (Bound 0 0) c) z) (λ es. (y : Datum) × (z : Datum) × (es ≡ y ∷ z ∷ []) × Has_datum N τ m ψ (Level (Bound 0 0) b) y × Has_datum N τ m ψ (Level (Bound 0 0) c) z) (each_out (λ k. column k r) (2 ∷ [])) (λ ys. Val (y ∷ ys))
-        (out_then (Has_datum N τ m ψ (Level (Bound 0 0) c)) (λ es. (z : Datum) × (es ≡ z ∷ []) × Has_datum N τ m ψ (Level (Bound 0 0) c) z) (column 2 r) (λ z. and_then (Val []) (λ zs. Val (z ∷ zs))) t (λ z hz. (z, refl, hz)))
+        out_then _ (Has_datum N τ m ψ (Level (Bound 0 0) a)) (Columns ψ) (column 0 r) (λ x. and_then (each_out (λ k. column k r) (1 ∷ 2 ∷ [])) (λ ys. Val (x ∷ ys))) p
+        (λ x hx. out_then _ (λ es. (y : Datum) × (z : Datum) × (es ≡ y ∷ z ∷ []) × Has_datum N τ m ψ (Level (Bound 0 0) b) y × Has_datum N τ m ψ (Level (Bound 0 0) c) z) (Columns ψ) (each_out (λ k. column k r) (1 ∷ 2 ∷ [])) (λ ys. Val (x ∷ ys))
+        (out_then _ (Has_datum N τ m ψ (Level (Bound 0 0) b)) (λ es. (y : Datum) × (z : Datum) × (es ≡ y ∷ z ∷ []) × Has_datum N τ m ψ (Level (Bound 0 0) b) y × Has_datum N τ m ψ (Level (Bound 0 0) c) z) (column 1 r) (λ y. and_then (each_out (λ k. column k r) (2 ∷ [])) (λ ys. Val (y ∷ ys))) q
+        (λ y hy. out_then _ (λ es. (z : Datum) × (es ≡ z ∷ []) × Has_datum N τ m ψ (Level (Bound 0 0) c) z) (λ es. (y : Datum) × (z : Datum) × (es ≡ y ∷ z ∷ []) × Has_datum N τ m ψ (Level (Bound 0 0) b) y × Has_datum N τ m ψ (Level (Bound 0 0) c) z) (each_out (λ k. column k r) (2 ∷ [])) (λ ys. Val (y ∷ ys))
+        (out_then _ (Has_datum N τ m ψ (Level (Bound 0 0) c)) (λ es. (z : Datum) × (es ≡ z ∷ []) × Has_datum N τ m ψ (Level (Bound 0 0) c) z) (column 2 r) (λ z. and_then (Val []) (λ zs. Val (z ∷ zs))) t (λ z hz. (z, refl, hz)))
         (λ es k. (y, k.0, ap (λ zs. y ∷ zs) k.1, hy, k.2))))
         (λ es k. (x, k.0, k.1, ap (λ zs. x ∷ zs) k.2, hx, k.3, k.4)))
 
     unzip_job : (F : ℕ → ℕ) (missing : Shape) (d : Datum) → Argument_is N types τ W S one m 1 F φ (Level (Bound 0 0) (triple_size a b c)) d
-        → Out_fits (Done_with (Met N types τ W S one m 1 F φ (triple_size (Level (Bound 0 0) a) (Level (Bound 0 0) b) (Level (Bound 0 0) c)))) (job false missing prim.Unzip3 at (d ∷ []))
+        → Out_fits (There W.is_there) (Done_with (Met N types τ W S one m 1 F φ (triple_size (Level (Bound 0 0) a) (Level (Bound 0 0) b) (Level (Bound 0 0) c)))) (job false missing prim.Unzip3 at (d ∷ []))
     unfolding job Has_datum
     unzip_job F missing (Array_datum row ds) x =
         let rows : Every (Has_datum N τ m (push F φ) (triple_size a b c)) (listed ds) = every_listed (Has_datum N τ m (push F φ) (triple_size a b c)) ds (x.1).2 in
         let hs = part_shapes (push F φ) row (x.1).1 in
-        out_then (Columns (push F φ)) (Done_with (Met N types τ W S one m 1 F φ (triple_size (Level (Bound 0 0) a) (Level (Bound 0 0) b) (Level (Bound 0 0) c)))) (each_out (λ k. column k (row, listed ds)) (0 ∷ 1 ∷ 2 ∷ [])) (λ es. done (shared (tupled es)))
+        out_then _ (Columns (push F φ)) (Done_with (Met N types τ W S one m 1 F φ (triple_size (Level (Bound 0 0) a) (Level (Bound 0 0) b) (Level (Bound 0 0) c)))) (each_out (λ k. column k (row, listed ds)) (0 ∷ 1 ∷ 2 ∷ [])) (λ es. done (shared (tupled es)))
         (three_columns (push F φ) (row, listed ds) (part_column (push F φ) 0 a row (listed ds) (x.1).0 (λ d h. first_part (push F φ) d h) hs.0 rows)
         (part_column (push F φ) 1 b row (listed ds) (x.1).0 (λ d h. second_part (push F φ) d h) hs.1 rows) (part_column (push F φ) 2 c row (listed ds) (x.1).0 (λ d h. third_part (push F φ) d h) hs.2 rows))
-        (λ es q. subst (λ zs. Out_fits (Done_with (Met N types τ W S one m 1 F φ (triple_size (Level (Bound 0 0) a) (Level (Bound 0 0) b) (Level (Bound 0 0) c)))) (done (shared (tupled zs)))) (sym q.3) (F, (λ i l. refl), (q.4, (q.5, (q.6, tt)))))
+        (λ es q. subst (λ zs. Out_fits (There W.is_there) (Done_with (Met N types τ W S one m 1 F φ (triple_size (Level (Bound 0 0) a) (Level (Bound 0 0) b) (Level (Bound 0 0) c)))) (done (shared (tupled zs)))) (sym q.3) (F, (λ i l. refl), (q.4, (q.5, (q.6, tt)))))
       where
-        part_column : (ψ : Frames) (k : ℕ) (e : Size) (row : Shape) (ds : List Datum) → length ds ≡ number m ψ (Bound 0 0) → ((d : Datum) → Has_datum N τ m ψ (triple_size a b c) d → Out_fits (Has_datum N τ m ψ e) (tuple_part k d)) → Has_shape N τ m ψ e (part_shape k row) → Every (Has_datum N τ m ψ (triple_size a b c)) ds → Out_fits (Has_datum N τ m ψ (Level (Bound 0 0) e)) (column k (row, ds))
-        part_column ψ k e row ds l go h all = out_then (λ ys. Every (Has_datum N τ m ψ e) ys × (length ys ≡ length ds)) (Has_datum N τ m ψ (Level (Bound 0 0) e)) (each_out (tuple_part k) ds) (λ ys. Val (Array_datum (part_shape k row) (datums ys)))
-            (each_out_fits (Has_datum N τ m ψ (triple_size a b c)) (Has_datum N τ m ψ e) (tuple_part k) go ds all)
+        part_column : (ψ : Frames) (k : ℕ) (e : Size) (row : Shape) (ds : List Datum) → length ds ≡ number m ψ (Bound 0 0) → ((d : Datum) → Has_datum N τ m ψ (triple_size a b c) d → Out_fits (There W.is_there) (Has_datum N τ m ψ e) (tuple_part k d)) → Has_shape N τ m ψ e (part_shape k row) → Every (Has_datum N τ m ψ (triple_size a b c)) ds → Out_fits (There W.is_there) (Has_datum N τ m ψ (Level (Bound 0 0) e)) (column k (row, ds))
+        part_column ψ k e row ds l go h all = out_then _ (λ ys. Every (Has_datum N τ m ψ e) ys × (length ys ≡ length ds)) (Has_datum N τ m ψ (Level (Bound 0 0) e)) (each_out (tuple_part k) ds) (λ ys. Val (Array_datum (part_shape k row) (datums ys)))
+            (each_out_fits _ (Has_datum N τ m ψ (triple_size a b c)) (Has_datum N τ m ψ e) (tuple_part k) go ds all)
             (λ ys q. array_of_rows N types τ W S one m ψ (Bound 0 0) e (part_shape k row) ys (q.1 ∙ l) h q.0)
     unzip_job F missing d x = absurd x.1
 
@@ -180,7 +182,7 @@ module _ (N : Names) (types : Sub) (τ : Meant) (W : World) (S : Sound N types W
     unzip_shape F (Array_shape n h) x = absurd x.1
     unzip_shape F h x = absurd x
 
-    pub unzip3_fits : Fits N τ W.sizing (calls W) m φ (Fun 1 (Level (Bound 0 0) (triple_size a b c)) (triple_size (Level (Bound 0 0) a) (Level (Bound 0 0) b) (Level (Bound 0 0) c))) (Primitive_value prim.Unzip3 at no_value)
+    pub unzip3_fits : Fits N τ W.sizing W.is_there (calls W) m φ (Fun 1 (Level (Bound 0 0) (triple_size a b c)) (triple_size (Level (Bound 0 0) a) (Level (Bound 0 0) b) (Level (Bound 0 0) c))) (Primitive_value prim.Unzip3 at no_value)
     unfolding plain
     unzip3_fits = one_fits N types τ W S one m prim.Unzip3 at φ 1 (Level (Bound 0 0) (triple_size a b c)) (triple_size (Level (Bound 0 0) a) (Level (Bound 0 0) b) (Level (Bound 0 0) c)) (data_array (Bound 0 0) (triple_size a b c) data_triple) data_arrays
         (λ Q v h. evaluates N types τ W S one Q (Call (Primitive_value prim.Unzip3 at no_value) v) h) unzip_job (refl, λ dr low F h hx. unzip_shape F h hx)

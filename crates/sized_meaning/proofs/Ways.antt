@@ -3,6 +3,7 @@ use Rattle.std.proofs.Common.{ℕ}
 use Rattle.fut_types.specs.declared.Head.{Head}
 use Rattle.fut_types.specs.declared.Head.TheVariants as head
 use Rattle.fut_value.specs.Data.{Shape, Scalar_shape, Tuple_shape, Record_shape, Array_shape, Unmet_shape, Shapes, no_shape, shape_and, Named_shapes, Datum, Scalar_datum, Tuple_datum, Record_datum, Array_datum, Datums, no_datum, datum_and, Named_datums}
+use Rattle.fut_scalar.specs.declared.report.Report.{Report}
 use Rattle.fut_meaning.specs.Flats.{FlatValue}
 use Rattle.fut_meaning.specs.Outcomes.{Out, Val, Fail, Wrong, Rel}
 use Rattle.fut_meaning.specs.Values.{Scalar_value, Tuple_value, Record_value, Array_value, Closure, Primitive_value, no_value, value_and}
@@ -132,10 +133,10 @@ first_value_goes P P' Q Q' p q (value_and v vs) x = (p v x.0, q vs x.1)
 pub first_value_as : (P P' : FlatValue → Type 0) (Q Q' : FlatValues → Type 0) → ((v : FlatValue) → Ways (P v) (P' v)) → ((vs : FlatValues) → Ways (Q vs) (Q' vs)) → (vs : FlatValues) → Ways (First_value P Q vs) (First_value P' Q' vs)
 first_value_as P P' Q Q' p q vs = (first_value_goes P P' Q Q' (λ v. (p v).0) (λ vs. (q vs).0) vs, first_value_goes P' P Q' Q (λ v. (p v).1) (λ vs. (q vs).1) vs)
 
-pub out_as : {A : Type 0} (P Q : A → Type 0) (o : Out A) → ((v : A) → P v → Q v) → Out_fits P o → Out_fits Q o
-out_as P Q (Val v) go h = go v h
-out_as P Q (Fail r) go h = tt
-out_as P Q Wrong go h = tt
+pub out_as : (quiet : Report → Type 0) {A : Type 0} (P Q : A → Type 0) (o : Out A) → ((v : A) → P v → Q v) → Out_fits quiet P o → Out_fits quiet Q o
+out_as quiet P Q (Val v) go h = go v h
+out_as quiet P Q (Fail r) go h = h
+out_as quiet P Q Wrong go h = tt
 
-pub gives_as : {A : Type 0} (P Q : A → Type 0) (m : Rel A) → Gives P m → ((v : A) → P v → Q v) → Gives Q m
-gives_as P Q m h go o f x = out_as P Q o go (h o f x)
+pub gives_as : {quiet : Report → Type 0} {A : Type 0} (P Q : A → Type 0) (m : Rel A) → Gives quiet P m → ((v : A) → P v → Q v) → Gives quiet Q m
+gives_as {quiet = quiet} P Q m h go o f x = out_as quiet P Q o go (h o f x)

@@ -74,7 +74,7 @@ module _ (N : Names) (types : Sub) (τ : Meant) (W : World) (S : Sound N types W
   s n = W.sizing.size_at n
 
   abbrev Of : Worth → Size → FlatValue → Type 0
-  Of m t v = Fits N τ W.sizing (calls W) m no_frames t v
+  Of m t v = Fits N τ W.sizing W.is_there (calls W) m no_frames t v
 
   abbrev Beyond : ℕ → ℕ → Free → Type 0
   Beyond lo hi d = Out_beyond N types τ W lo hi d

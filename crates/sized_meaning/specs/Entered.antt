@@ -1,5 +1,6 @@
 -- Environments in which what was entered is right, and what the meaning finds under their names.
 use Rattle.std.specs.Prelude.{◌≡◌, ℕ, Bool, true, ◌&&◌, [], ◌∷◌, Some, ℤ}
+use Rattle.fut_scalar.specs.declared.place.Place.{Place}
 use Rattle.fut_typing.specs.Names.{Names, AreNames}
 use Rattle.fut_value.specs.Data.{Shape}
 use Rattle.fut_meaning.specs.Accessors.{count_of}
@@ -64,4 +65,4 @@ CoercedHasItsSizes = (N : Names) → AreNames N → (τ : Variable → Shape) (Z
 
 -- a value of a sized type has its shape
 abbrev pub ValuesRead : Type 0
-ValuesRead = (N : Names) (τ : Variable → Shape) (Z : Sizing) (L : FlatLang) (tight : Bool) (budget : ℕ) (m : Worth) (t : Size) (v : FlatValue) → Fits N (exactly τ) Z (calls_of L tight budget) m no_frames t v → Reads N (exactly τ) m no_frames t (value_shape v)
+ValuesRead = (N : Names) (τ : Variable → Shape) (Z : Sizing) (L : FlatLang) (is_there : Place → Bool) (tight : Bool) (budget : ℕ) (m : Worth) (t : Size) (v : FlatValue) → Fits N (exactly τ) Z is_there (calls_of L tight budget) m no_frames t v → Reads N (exactly τ) m no_frames t (value_shape v)

@@ -1,10 +1,12 @@
 -- Which values are of a sized type. A function is of one where, whatever sizes its caller chooses, it takes each value of its
--- parameter's type to values of its result's, for some sizes that are met when it runs; and what it tells of its results is
--- right.
-use Rattle.std.specs.Prelude.{◌≡◌, ℕ, zero, suc, ◌<◌, ◌≤◌, true, List, [], ◌∷◌, Some}
+-- parameter's type to values of its result's, for some sizes that are met when it runs, and reports no sizes but at some places; and
+-- what it tells of its results is right.
+use Rattle.std.specs.Prelude.{◌≡◌, ℕ, zero, suc, ◌<◌, ◌≤◌, Bool, true, List, [], ◌∷◌, Some}
 use Rattle.fut_arithmetic.specs.Types.{type_of}
 use Rattle.fut_ast.specs.Sorts.{Text}
 use Rattle.fut_scalar.specs.Integers.{integer_of}
+use Rattle.fut_scalar.specs.declared.place.Place.{Place}
+use Rattle.fut_scalar.specs.declared.report.Report.{Report}
 use Rattle.fut_scalar.specs.declared.scalar.Scalar.{Scalar}
 use Rattle.fut_scalar.specs.declared.scalar.Scalar.TheVariants as scalar
 use Rattle.fut_scalar.specs.declared.scalar.ScalarType.{ScalarType}
@@ -19,14 +21,15 @@ use Rattle.fut_meaning.specs.Flats.{FlatValue}
 use Rattle.fut_meaning.specs.Found.{Sizing}
 use Rattle.fut_meaning.specs.Telling.{is_function, tells}
 use Rattle.fut_meaning.specs.Outcomes.{Out, Val, Fail, Wrong, Rel}
-use Rattle.fut_meaning.specs.Values.{Scalar_value, Tuple_value, Record_value, Values, no_value, value_and, Fields, field}
+use Rattle.fut_meaning.specs.Values.{Scalar_value, Tuple_value, Record_value, Values, no_value, value_and, Fields, no_field, field_and, field}
 use Rattle.fut_flat.specs.declared.prim.Ref.{Ref}
 use Rattle.fut_scalar.specs.declared.place.BindId.{BindId}
 use Rattle.sized_types.specs.Sizes.{Free, Dim, At, Bound, Size, Hole, Open, Level, Built, Fun, Sizes, no_size, size_and}
 use Rattle.fut_sizes.specs.Suiting.{Each, Data}
 use Rattle.fut_sizes.specs.Rules.{Any_free}
 use Rattle.sized_meaning.specs.Worth.{Worth, Frames, push}
-use Rattle.sized_meaning.specs.Shapes.{Meant, Has_shape, Has_datum}
+use Rattle.sized_meaning.specs.There.{There}
+use Rattle.sized_meaning.specs.Shapes.{Meant, Record_names, Has_shape, Has_datum}
 
 abbrev pub FlatValues : Type 0
 FlatValues = Values Ref BindId (Unit {0})
@@ -34,14 +37,14 @@ FlatValues = Values Ref BindId (Unit {0})
 abbrev pub FlatFields : Type 0
 FlatFields = Fields Ref BindId (Unit {0})
 
--- each value that is given has the property
-abbrev pub Out_fits : {A : Type 0} → (A → Type 0) → Out A → Type 0
-Out_fits P (Val v) = P v
-Out_fits P (Fail r) = Unit {0}
-Out_fits P Wrong = Unit {0}
+-- each value that is given has the property, and each report has one too
+abbrev pub Out_fits : (Report → Type 0) → {A : Type 0} → (A → Type 0) → Out A → Type 0
+Out_fits quiet P (Val v) = P v
+Out_fits quiet P (Fail r) = quiet r
+Out_fits quiet P Wrong = Unit {0}
 
-abbrev pub Gives : {A : Type 0} → (A → Type 0) → Rel A → Type 0
-Gives {A} P m = (o : Out A) (f : ℕ) → m o f → Out_fits P o
+abbrev pub Gives : (Report → Type 0) → {A : Type 0} → (A → Type 0) → Rel A → Type 0
+Gives quiet {A} P m = (o : Out A) (f : ℕ) → m o f → Out_fits quiet P o
 
 -- the number of rows that a value says as a size: an integer below 0 says none
 abbrev pub word_of : Scalar → ℕ
@@ -77,6 +80,10 @@ No_value (value_and v vs) = ⊥
 abbrev pub First_value : (FlatValue → Type 0) → (FlatValues → Type 0) → FlatValues → Type 0
 First_value P Q no_value = ⊥
 First_value P Q (value_and v vs) = P v × Q vs
+
+abbrev pub field_names : FlatFields → List Text
+field_names no_field = []
+field_names (field_and f v fs) = f ∷ field_names fs
 
 -- by what a type is made of; a type of its own has no values
 abbrev pub Of_head : Head → (FlatValues → Type 0) → (ℕ → FlatFields → Type 0) → FlatValue → Type 0
@@ -147,8 +154,9 @@ module _ (N : Names) (τ : Meant) where
 abbrev pub Tells_right : Names → Meant → Sizing → Worth → Frames → ℕ → Size → Size → FlatValue → Type 0
 Tells_right N τ Z m φ k p r f = (is_function f ≡ true) × (Known_result Any_free (k ∷ []) r → (F : ℕ → ℕ) (h : Shape) → Has_shape N τ m (push F φ) p h → Told_right N τ m (push F φ) r (λ hs. tells Z f (h ∷ hs)))
 
--- where a function called with a value means this, a sizing tells this, and type variables stand for these data
-module _ (N : Names) (τ : Meant) (Z : Sizing) (calls : FlatValue → FlatValue → Rel FlatValue) where
+-- where a function called with a value means this, sizes are reported at these places, a sizing tells this, and type variables stand
+-- for these data
+module _ (N : Names) (τ : Meant) (Z : Sizing) (is_there : Place → Bool) (calls : FlatValue → FlatValue → Rel FlatValue) where
   unfoldable mutual
     pub Fits : Worth → Frames → Size → FlatValue → Type 0
     Fits m φ (Hole v) w = Is_data (Has_datum N τ m φ (Hole v)) w
@@ -156,13 +164,13 @@ module _ (N : Names) (τ : Meant) (Z : Sizing) (calls : FlatValue → FlatValue 
     Fits m φ (Level d t) w = Is_data (Has_datum N τ m φ (Level d t)) w
     Fits m φ (Built h ts) w = Of_head h (All_fit m φ ts) (λ n. Named_fit m φ n 0 ts) w
     Fits m φ (Fun k p r) f = Tells_right N τ Z m φ k p r f × ((F : ℕ → ℕ) (v : FlatValue) → F k ≡ word v → Fits m (push F φ) p v
-        → Gives (λ w. (F' : ℕ → ℕ) × ((i : ℕ) → i ≤ k → F' i ≡ F i) × Fits m (push F' φ) r w) (calls f v))
+        → Gives (There is_there) (λ w. (F' : ℕ → ℕ) × ((i : ℕ) → i ≤ k → F' i ≡ F i) × Fits m (push F' φ) r w) (calls f v))
 
     pub All_fit : Worth → Frames → Sizes → FlatValues → Type 0
     All_fit m φ no_size vs = No_value vs
     All_fit m φ (size_and t ts) vs = First_value (Fits m φ t) (All_fit m φ ts) vs
 
-    -- the record with this number has its fields, from a part on
+    -- the record with this number has its fields, from a part on, and no others
     pub Named_fit : Worth → Frames → ℕ → ℕ → Sizes → FlatFields → Type 0
-    Named_fit m φ n i no_size fs = Unit {0}
+    Named_fit m φ n i no_size fs = Record_names N n i (field_names fs)
     Named_fit m φ n i (size_and t ts) fs = ((f : Text) → place N.shapes (N.label f) (head.Record n) ≡ Some i → (v : FlatValue) × (field f fs ≡ Some v) × Fits m φ t v) × Named_fit m φ n (suc i) ts fs

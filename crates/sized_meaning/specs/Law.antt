@@ -1,8 +1,9 @@
--- Each value that a sized term may give is of its sized type. It is said here of the terms that use names and names of sizes,
+-- Each value that a sized term may give is of its sized type, and each report of a size comes from where a `:>` or an `unflatten`
+-- stands. It is said here of the terms that use names and names of sizes,
 -- primitives, reckon with scalars, make and update arrays, take elements, slices and parts, make ranges,
 -- tuples, records and functions, say types, coerce, apply functions, bind names by lets, also those of functions of
 -- one type, choose by conditions and take turns in loops. Patterns may take the parts of tuples and records, and name sizes.
-use Rattle.std.specs.Prelude.{◌≡◌, ◌⊎◌, ℕ, suc, ◌+◌, ◌^◌, ◌<◌, Bool, true, false, List, [], ◌∷◌, map, Some, ℤ}
+use Rattle.std.specs.Prelude.{◌≡◌, ◌⊎◌, ℕ, suc, ◌+◌, ◌^◌, ◌<◌, ◌≤◌, Bool, true, false, List, [], ◌∷◌, map, Some, ℤ}
 use Rattle.fut_ast.specs.Sorts.{Text}
 use Rattle.fut_sizes.specs.WrittenSizes.{part_of}
 use Rattle.fut_sizes.specs.Operations.{value_of, is_literal, slice_size, many, range_of, element_ty, is_i64}
@@ -33,7 +34,7 @@ use Rattle.fut_meaning.specs.Meaning.{plain, Ever}
 use Rattle.fut_meaning.specs.Outcomes.{Val, Rel}
 use Rattle.fut_meaning.specs.Values.{Task, Evaluate, Call}
 use Rattle.sized_types.specs.Standing.{is_known}
-use Rattle.sized_types.specs.Sizes.{Free, Const, Name, Unknown, Dim, At, Variable, Size, Level, Built, Fun, Sizes, erased, no_size, size_and}
+use Rattle.sized_types.specs.Sizes.{Free, Const, Name, Unknown, Dim, At, Variable, Size, Level, Built, Fun, Sizes, is_dim, erased, has, no_size, size_and}
 use Rattle.fut_sizes.specs.Agreeing.{is_among}
 use Rattle.fut_sizes.specs.Scopes.{i64_size, names}
 use Rattle.fut_sizes.specs.Sizing.{all_part_names, bind_ids}
@@ -41,6 +42,8 @@ use Rattle.fut_sizes.specs.Scoping.{Context}
 use Rattle.fut_sizes.specs.Suiting.{Data}
 use Rattle.fut_sizes.specs.Rules.{Each_hole, Outside, Inside, Away, Sized}
 use Rattle.fut_scalar.specs.declared.place.BindId.{BindId}
+use Rattle.fut_scalar.specs.declared.place.Place.{Place}
+use Rattle.sized_meaning.specs.There.{There, Term_there}
 use Rattle.fut_flat.specs.declared.prim.Ref.{Ref}
 use Rattle.sized_meaning.specs.Worth.{Worth, free, no_frames}
 use Rattle.sized_meaning.specs.Shapes.{Meant, exactly}
@@ -66,6 +69,8 @@ pub record World : Type 0 where
   pub tops : FlatTops
   pub tight : Bool
   pub budget : ℕ
+  -- where sizes may be reported: each `:>` and each `unflatten` stands at one of these places
+  pub is_there : Place → Bool
 
 -- no lambda, whose name could be general
 abbrev pub No_lambda : FlatTerm → Type 0
@@ -247,6 +252,7 @@ module _ (N : Names) (types : Sub) (W : World) where
   -- a record whose fields are these
   abbrev pub Record_parts : List Text → ℕ → Type 0
   Record_parts fs lo = (n : ℕ) × (us : Tys) × (types lo ≡ Made (head.Record n) us) × Apart_labels N fs × ((l : ℕ) → is_among (N.shapes.fields n) l ≡ true → is_among (map N.label fs) l ≡ true)
+      × ((l : ℕ) → is_among (map N.label fs) l ≡ true → is_among (N.shapes.fields n) l ≡ true)
 
   -- a record
   abbrev pub Is_record : ℕ → Type 0
@@ -312,12 +318,12 @@ module _ (N : Names) (types : Sub) (W : World) where
     Plain_term e lo = ⊥
 
     -- what says the turns of a loop, whose nodes are those from ts up to at: a number; or an array, whose type mentions nothing that turns
-    -- make; or a condition, of which nothing is asked
+    -- make; or a condition, of which nothing is asked where sizes may be reported anywhere
     pub Plain_turns : FlatTurns → ℕ → ℕ → ℕ → ℕ → Type 0
     Plain_turns (Counted i m) lo ts at hi = (W.sizing.home i.0 ≡ ts) × Simple W.sizing (Bound_pattern i) ts × ((t : IntType) × (types (1 + ts) ≡ scalar_ty (sort.Int t))) × Plain_term m (1 + ts)
     Plain_turns (Over p e) lo ts at hi = Name_home W.sizing p ts × Simple W.sizing p ts × ((d : Dim) × (t : Size) × (W.sizing.size_at (ts + pattern_numbers p) ≡ Level d t))
         × Away N types W.sizing.size_at W.sizing.home lo (ts + pattern_numbers p) (W.sizing.size_at (ts + pattern_numbers p)) × Away N types W.sizing.size_at W.sizing.home at hi (W.sizing.size_at (ts + pattern_numbers p)) × Plain_term e (ts + pattern_numbers p)
-    Plain_turns (While c) lo ts at hi = Unit {0}
+    Plain_turns (While c) lo ts at hi = ((place : Place) → W.is_there place ≡ true) ⊎ Plain_term c ts
 
     pub Plain_terms : Terms Ref BindId → ℕ → Type 0
     Plain_terms no_term lo = Unit {0}
@@ -340,12 +346,16 @@ module _ (N : Names) (types : Sub) (τ : Meant) (W : World) where
   abbrev pub Beyond : ℕ → ℕ → Free → Type 0
   Beyond lo hi d = Outside N types W.sizing.size_at W.sizing.home lo hi d
 
+  -- a size that the sized type of one of these nodes names
+  abbrev pub Named_at : ℕ → ℕ → Free → Type 0
+  Named_at lo hi d = (n : ℕ) × (lo ≤ n) × (n < hi) × (has (is_dim (At d)) (W.sizing.size_at n) ≡ true)
+
   -- the names in scope have values of their sized types, which no node from lo up to hi makes
   pub record Env_fits (lo hi : ℕ) (m : Worth) (G : Context) (env : FlatEnv) : Type 0 where
-    pub values : (b : ℕ) (t : Size) → G.sizes b ≡ Some t → (v : FlatValue) → flat_look W.tops env b ≡ Val v → Fits N τ W.sizing (calls W) m no_frames t v × (word v ≡ m (Name b))
+    pub values : (b : ℕ) (t : Size) → G.sizes b ≡ Some t → (v : FlatValue) → flat_look W.tops env b ≡ Val v → Fits N τ W.sizing W.is_there (calls W) m no_frames t v × (word v ≡ m (Name b))
     pub away : (b : ℕ) (t : Size) → G.sizes b ≡ Some t → Away N types W.sizing.size_at W.sizing.home lo hi t × Beyond lo hi (Name b)
     -- a general name's value is of its type, which is one
-    pub general : (b : ℕ) (t : Size) → G.schemes b ≡ Some t → One_type (G.general b) t × Away N types W.sizing.size_at W.sizing.home lo hi t × ((v : FlatValue) → flat_look W.tops env b ≡ Val v → Fits N τ W.sizing (calls W) m no_frames t v)
+    pub general : (b : ℕ) (t : Size) → G.schemes b ≡ Some t → One_type (G.general b) t × Away N types W.sizing.size_at W.sizing.home lo hi t × ((v : FlatValue) → flat_look W.tops env b ≡ Val v → Fits N τ W.sizing W.is_there (calls W) m no_frames t v)
     -- and where that is a number, the name is worth it
     pub general_worth : (b : ℕ) (t : Size) → G.schemes b ≡ Some t → is_number t ≡ true → Beyond lo hi (Name b) × ((v : FlatValue) → flat_look W.tops env b ≡ Val v → word v ≡ m (Name b))
     -- what these nodes bind has no value yet
@@ -353,17 +363,17 @@ module _ (N : Names) (types : Sub) (τ : Meant) (W : World) where
     -- what is found under the names is right, and made before
     pub sizes_right : (d : Free) (n : ℤ) → (found W.sizing env).size d ≡ Some n → (count_of n ≡ free m d) × Beyond lo hi d
     pub types_right : (v : Variable) (h : Shape) → (found W.sizing env).type v ≡ Some h → (τ v).shape h
-    -- and all is found that is known to be
-    pub finds : (d : Free) → G.finds d ≡ true → (n : ℤ) × ((found W.sizing env).size d ≡ Some n)
+    -- and all is found that is known to be, where one of these nodes names it
+    pub finds : (d : Free) → Named_at lo hi d → G.finds d ≡ true → (n : ℤ) × ((found W.sizing env).size d ≡ Some n)
     pub finds_types : (v : Variable) → G.finds_types v ≡ true → (h : Shape) × ((found W.sizing env).type v ≡ Some h)
 
   -- the value is of this sized type, with what was met at these nodes
   pub record Result (lo hi : ℕ) (m : Worth) (t : Size) (v : FlatValue) : Type 0 where
     pub now : Worth
     pub old : (d : Free) → Beyond lo hi d → now d ≡ m d
-    pub fits : Fits N τ W.sizing (calls W) now no_frames t v
+    pub fits : Fits N τ W.sizing W.is_there (calls W) now no_frames t v
 
 abbrev pub ValuesHaveTheirSizes : Type 0
 ValuesHaveTheirSizes = (N : Names) (types : Sub) (τ : Variable → Shape) (W : World) (t : FlatTerm) (lo : ℕ) (G : Context) (env : FlatEnv) (m : Worth)
-    → Sound N types W.sizing → One_shape_each τ → Plain_term N types W t lo → Sized N types W.sizing.size_at W.sizing.home t lo G → Env_fits N types (exactly τ) W lo (lo + numbers t) m G env
-    → Gives (Result N types (exactly τ) W lo (lo + numbers t) m (W.sizing.size_at lo)) (means W (Evaluate env lo t))
+    → Sound N types W.sizing → One_shape_each τ → Plain_term N types W t lo → Term_there W.is_there t → Sized N types W.sizing.size_at W.sizing.home t lo G → Env_fits N types (exactly τ) W lo (lo + numbers t) m G env
+    → Gives (There W.is_there) (Result N types (exactly τ) W lo (lo + numbers t) m (W.sizing.size_at lo)) (means W (Evaluate env lo t))

@@ -1,5 +1,6 @@
 pub mod Worth
 pub mod Shapes
+pub mod There
 pub mod Fits
 pub mod Claims
 pub mod Law

@@ -18,12 +18,12 @@ use Rattle.fut_meaning.specs.Found.{told_shape}
 use Rattle.fut_meaning.specs.Jobs.{Applied, job}
 use Rattle.fut_meaning.specs.Meaning.{unrestricted, called_on, job_of}
 use Rattle.fut_meaning.specs.Outcomes.{Out, Rel, the, Then}
-use Rattle.sized_types.specs.Sizes.{Variable as TypeVariable, Size, Hole, Open, Level, Built, Fun, Sizes, no_size, size_and}
-use Rattle.fut_types.specs.declared.Head.{Head}
-use Rattle.fut_types.specs.declared.Head.TheVariants as head
-use Rattle.fut_typing.specs.Names.{Names}
+use Rattle.sized_types.specs.Sizes.{Variable as TypeVariable, Size}
+use Rattle.fut_typing.specs.Names.{Names, AreNames}
 use Rattle.sized_meaning.specs.Worth.{Worth, Frames, number}
 use Rattle.sized_meaning.specs.Shapes.{exactly, Whole, Has_datum}
+use Rattle.sized_meaning.specs.Finding.{Fields_are, Formed}
+use Rattle.sized_meaning.specs.There.{There, anywhere}
 use Rattle.sized_meaning.specs.Fits.{Gives}
 use Rattle.sized_meaning.specs.Law.{World, told, means}
 
@@ -63,7 +63,7 @@ module _ (size : Length → ℕ) (shape : Letter → Shape) (own from : ScalarTy
 
   -- the argument that is a function, where there is one: it gives data of its shape for data of the shapes that it takes
   abbrev pub Function_fits : Applied → Written → Type 0
-  Function_fits f (Function (Function t u) r) = (ds : List Datum) → Of_shapes (data_taken (Function t u)) ds → Gives (Of_shape (given_last u)) (f ds)
+  Function_fits f (Function (Function t u) r) = (ds : List Datum) → Of_shapes (data_taken (Function t u)) ds → Gives (There anywhere) (Of_shape (given_last u)) (f ds)
   Function_fits f (Function t r) = Function_fits f r
   Function_fits f w = Unit {0}
 
@@ -105,23 +105,8 @@ Made_of_shapes m ds = Unit {0}
 abbrev pub NoOperationMisfits : Type 0
 NoOperationMisfits = (told : Shape) (m : Making) (at : Place) (ds : List Datum) → Made_of_shapes m ds → made true told m at ds ≡ made false told m at ds
 
--- ---- data of a sized type is of one shape, where no record stands in that outside of type variables
-
-abbrev pub No_record : Head → Type 0
-No_record (head.Record n) = ⊥
-No_record h = Unit {0}
-
-unfoldable mutual
-  pub Recordless : Size → Type 0
-  Recordless (Hole v) = Unit {0}
-  Recordless (Open n v u) = Unit {0}
-  Recordless (Level d t) = Recordless t
-  Recordless (Built h ts) = No_record h × All_recordless ts
-  Recordless (Fun k p r) = Unit {0}
-
-  pub All_recordless : Sizes → Type 0
-  All_recordless no_size = Unit {0}
-  All_recordless (size_and t ts) = Recordless t × All_recordless ts
+-- ---- data of a sized type is of one shape
 
 abbrev pub DataIsOfItsShape : Type 0
-DataIsOfItsShape = (N : Names) (fields : ℕ → List Text) (τ : TypeVariable → Shape) (m : Worth) (φ : Frames) (t : Size) (d : Datum) → Recordless t → Has_datum N (exactly τ) m φ t d → Of_shape (told_shape fields (number m φ) τ t) d
+DataIsOfItsShape = (N : Names) → AreNames N → (fields : ℕ → List Text) (τ : TypeVariable → Shape) (m : Worth) (φ : Frames) (t : Size) (d : Datum) → Fields_are N fields → Formed fields t
+    → Has_datum N (exactly τ) m φ t d → Of_shape (told_shape fields (number m φ) τ t) d

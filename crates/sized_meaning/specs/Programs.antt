@@ -1,69 +1,41 @@
 -- What whole programs give: on arguments of its entry's sized type each value is of the sized type of its results, for the sizes of
 -- these arguments and of the definitions that are numbers. It is said here of programs whose definitions have one type each.
-use Rattle.std.specs.Prelude.{◌≡◌, ℕ, ◌+◌, ◌≤◌, Bool, true, ◌||◌, List, [], ◌∷◌, map, Some}
+use Rattle.sized_meaning.specs.There.{There}
+use Rattle.std.specs.Prelude.{◌≡◌, ℕ, ◌+◌, ◌≤◌, true, List, [], ◌∷◌, map}
 use Rattle.fut_scalar.specs.declared.place.BindId.{BindId}
+use Rattle.fut_scalar.specs.declared.report.FailKind.TheVariants as kind
+use Rattle.fut_scalar.specs.declared.report.Report.{Report}
 use Rattle.fut_flat.specs.declared.prim.Ref.{Ref}
 use Rattle.fut_flat.specs.Numbers.{numbers}
-use Rattle.fut_flat.specs.Erased.{FlatTerm}
 use Rattle.fut_flat.specs.Terms.{Bound_pattern}
 use Rattle.fut_types.specs.Types.{Sub}
 use Rattle.fut_typing.specs.Names.{Names}
-use Rattle.fut_typing.specs.Program.{Defined, program_numbers}
+use Rattle.fut_typing.specs.Program.{Defined}
 use Rattle.fut_value.specs.Data.{Shape}
 use Rattle.fut_meaning.specs.Flats.{FlatValue, FlatTops, Named_term, flat_names, flat_tops, Flat_means}
 use Rattle.fut_meaning.specs.Found.{is_number}
 use Rattle.fut_meaning.specs.Meaning.{plain}
-use Rattle.fut_meaning.specs.Outcomes.{Out, Val}
-use Rattle.fut_meaning.specs.Programs.{Seen, seeing, below_names, top, some_names, evaluated}
+use Rattle.fut_meaning.specs.Outcomes.{Out, Val, Fail}
+use Rattle.fut_meaning.specs.Programs.{Seen, seeing, below_names, top, evaluated}
 use Rattle.fut_meaning.specs.Telling.{value_shape}
-use Rattle.sized_types.specs.Sizes.{Free, Name, Variable, Size, Hole, Open, Level, Built, Fun}
-use Rattle.fut_sizes.specs.ProgramRules.{Definition_sized, Program_sized}
-use Rattle.fut_sizes.specs.Rules.{Sized}
-use Rattle.fut_sizes.specs.Scoping.{Context, nothing_known, with_scheme}
+use Rattle.sized_types.specs.Sizes.{Name, Variable, Size, Hole, Open, Level, Built, Fun}
+use Rattle.fut_sizes.specs.ProgramRules.{Program_sized}
 use Rattle.fut_sizes.specs.Suiting.{Data}
 use Rattle.sized_meaning.specs.Worth.{Worth, Frames, no_frames, push}
 use Rattle.sized_meaning.specs.Shapes.{Meant, exactly, Has_shape, Has_datum}
 use Rattle.sized_meaning.specs.Finding.{One_shape_each}
 use Rattle.sized_meaning.specs.Entered.{All_entered}
 use Rattle.sized_meaning.specs.Fits.{Gives, word, Is_data, Fits}
+use Rattle.sized_meaning.specs.Reports.{Definitions_there}
 use Rattle.sized_meaning.specs.Law.{Sound, World, One_type, Plain_term, told, calls}
 
 -- a definition as the rules have it
 abbrev pub as_defined : Named_term → Defined
 as_defined d = record { name = Bound_pattern d.0; parameters = []; value = d.1 }
 
--- ---- a sizing of a program, where a definition finds numbers among those before it
-
--- a number that is defined before, which the sized type of a node of this term names
-abbrev pub Names_number : (ℕ → Size) → Context → FlatTerm → ℕ → Free → Type 0
-Names_number s G e lo (Name b) = (t : Size) × (G.schemes b ≡ Some t) × (is_number t ≡ true) × (some_names s b lo (numbers e) ≡ true)
-Names_number s G e lo d = ⊥
-
--- these are found too
-abbrev pub finding : (Free → Bool) → Context → Context
-finding more G = record { sizes = G.sizes; schemes = G.schemes; general = G.general; finds = λ d. more d || G.finds d; finds_types = G.finds_types }
-
-module _ (N : Names) (types : Sub) (s : ℕ → Size) (home : ℕ → ℕ) where
-  -- a definition's term is of its sized type where some of these are found
-  abbrev pub Term_finds : FlatTerm → ℕ → Context → Type 0
-  Term_finds e lo G = (more : Free → Bool) × ((d : Free) → more d ≡ true → Names_number s G e lo d) × Sized N types s home e lo (finding more G)
-
-  abbrev pub Definitions_find : List Named_term → ℕ → ℕ → Context → Type 0
-  Definitions_find [] lo hi G = Unit {0}
-  Definitions_find (d ∷ ds) lo hi G = Term_finds d.1 (lo + 1) G
-      × Definition_sized N types s home (Bound_pattern d.0) lo (lo + 1) (lo + (1 + numbers d.1)) hi
-      × Definitions_find ds (lo + (1 + numbers d.1)) hi (with_scheme d.0.0 (s lo) (λ v. true) G)
-
-  abbrev pub Program_finds : List Named_term → Type 0
-  Program_finds ds = Definitions_find ds 0 (program_numbers (map as_defined ds)) nothing_known
-
--- each program that is sized by the rules of `fut_sizes`, in which a definition finds none
-abbrev pub SizedProgramsFind : Type 0
-SizedProgramsFind = (N : Names) (types : Sub) (s : ℕ → Size) (home : ℕ → ℕ) (ds : List Named_term) → Program_sized N types s home (map as_defined ds) → Program_finds N types s home ds
-
 -- where definitions have these values
 abbrev pub at_tops : World → FlatTops → World
-at_tops W tops = record { integer_at = W.integer_at; sizing = W.sizing; tops = tops; tight = W.tight; budget = W.budget }
+at_tops W tops = record { integer_at = W.integer_at; sizing = W.sizing; tops = tops; tight = W.tight; budget = W.budget; is_there = W.is_there }
 
 -- definitions of one type each, whose terms are of the forms of `Law`; the first number is that of the first name
 abbrev pub Plain_definitions : Names → Sub → World → List Named_term → ℕ → Type 0
@@ -88,7 +60,7 @@ seen_behind (d ∷ ds) lo tops seen = seen_behind ds (lo + (1 + numbers d.1)) to
 -- right then (`specs/Entered.antt`): an array literal without elements has rows of so many as such a number says.
 abbrev pub DefinitionsAreEntered : Type 0
 DefinitionsAreEntered = (N : Names) (types : Sub) (τ : Variable → Shape) (W : World) (ds : List Named_term) (entry : BindId) (tops : FlatTops) (words : ℕ)
-    → Sound N types W.sizing → One_shape_each τ → Program_finds N types W.sizing.size_at W.sizing.home ds → Plain_definitions N types W ds 0
+    → Sound N types W.sizing → One_shape_each τ → Program_sized N types W.sizing.size_at W.sizing.home (map as_defined ds) → Plain_definitions N types W ds 0 → Definitions_there W.is_there ds
     → evaluated (flat_names (told W)) (plain W.tight) W.budget entry.0 (flat_tops 0 ds) [] [] (Val tops) words
     → (m : Worth) × Definitions_are W ds entry tops m × All_entered N (exactly τ) W.sizing m (below_names (seen_behind ds 0 tops []) tt)
 
@@ -100,11 +72,11 @@ module _ (N : Names) (τ : Meant) (W : World) (m : Worth) where
   Arguments_fit φ (Open n a u) (v ∷ vs) = ⊥
   Arguments_fit φ (Level d t) (v ∷ vs) = ⊥
   Arguments_fit φ (Built h ts) (v ∷ vs) = ⊥
-  Arguments_fit φ (Fun k p r) (v ∷ vs) = (F : ℕ → ℕ) × (F k ≡ word v) × Fits N τ W.sizing (calls W) m (push F φ) p v × ((F' : ℕ → ℕ) → ((i : ℕ) → i ≤ k → F' i ≡ F i) → Arguments_fit (push F' φ) r vs)
+  Arguments_fit φ (Fun k p r) (v ∷ vs) = (F : ℕ → ℕ) × (F k ≡ word v) × Fits N τ W.sizing W.is_there (calls W) m (push F φ) p v × ((F' : ℕ → ℕ) → ((i : ℕ) → i ≤ k → F' i ≡ F i) → Arguments_fit (push F' φ) r vs)
 
   -- what it gives for these arguments, for some sizes that are met
   abbrev pub Result_fits : (φ : Frames) (t : Size) (vs : List FlatValue) → Arguments_fit φ t vs → FlatValue → Type 0
-  Result_fits φ t [] a w = Fits N τ W.sizing (calls W) m φ t w
+  Result_fits φ t [] a w = Fits N τ W.sizing W.is_there (calls W) m φ t w
   Result_fits φ (Hole a) (v ∷ vs) x w = ⊥
   Result_fits φ (Open n a u) (v ∷ vs) x w = ⊥
   Result_fits φ (Level d t) (v ∷ vs) x w = ⊥
@@ -114,9 +86,9 @@ module _ (N : Names) (τ : Meant) (W : World) (m : Worth) where
 -- the arguments fit what definitions have as values and what sizes by themselves are worth
 abbrev pub ProgramsHaveTheirSizes : Type 0
 ProgramsHaveTheirSizes = (N : Names) (types : Sub) (τ : Variable → Shape) (W : World) (ds : List Named_term) (entry : BindId) (arguments : List FlatValue)
-    → Sound N types W.sizing → One_shape_each τ → Program_finds N types W.sizing.size_at W.sizing.home ds → Plain_definitions N types W ds 0
+    → Sound N types W.sizing → One_shape_each τ → Program_sized N types W.sizing.size_at W.sizing.home (map as_defined ds) → Plain_definitions N types W ds 0 → Definitions_there W.is_there ds
     → (fit : (tops : FlatTops) (m : Worth) → Definitions_are W ds entry tops m → Arguments_fit N (exactly τ) (at_tops W tops) m no_frames (W.sizing.size_at (W.sizing.home entry.0)) arguments)
-    → Gives (λ w. (tops : FlatTops) × (m : Worth) × (are : Definitions_are W ds entry tops m) × Result_fits N (exactly τ) (at_tops W tops) m no_frames (W.sizing.size_at (W.sizing.home entry.0)) arguments (fit tops m are) w) (Flat_means (told W) (plain W.tight) W.budget ds entry arguments)
+    → Gives (There W.is_there) (λ w. (tops : FlatTops) × (m : Worth) × (are : Definitions_are W ds entry tops m) × Result_fits N (exactly τ) (at_tops W tops) m no_frames (W.sizing.size_at (W.sizing.home entry.0)) arguments (fit tops m are) w) (Flat_means (told W) (plain W.tight) W.budget ds entry arguments)
 
 -- ---- arguments that are data, of which sizes tell all
 
@@ -151,6 +123,13 @@ Gives_data (Fun k p r) (v ∷ vs) = Gives_data r vs
 -- each value that a program gives for them has the shape that its entry's sized type says
 abbrev pub ProgramsGiveTheirShapes : Type 0
 ProgramsGiveTheirShapes = (N : Names) (types : Sub) (τ : Variable → Shape) (W : World) (ds : List Named_term) (entry : BindId) (arguments : List FlatValue)
-    → Sound N types W.sizing → One_shape_each τ → Program_finds N types W.sizing.size_at W.sizing.home ds → Plain_definitions N types W ds 0
+    → Sound N types W.sizing → One_shape_each τ → Program_sized N types W.sizing.size_at W.sizing.home (map as_defined ds) → Plain_definitions N types W ds 0 → Definitions_there W.is_there ds
     → (fit : (tops : FlatTops) (m : Worth) → Definitions_are W ds entry tops m → Data_arguments N (exactly τ) m no_frames (W.sizing.size_at (W.sizing.home entry.0)) arguments) → Gives_data (W.sizing.size_at (W.sizing.home entry.0)) arguments
-    → Gives (λ w. (tops : FlatTops) × (m : Worth) × (are : Definitions_are W ds entry tops m) × Result_shaped N (exactly τ) m no_frames (W.sizing.size_at (W.sizing.home entry.0)) arguments (fit tops m are) (value_shape w)) (Flat_means (told W) (plain W.tight) W.budget ds entry arguments)
+    → Gives (There W.is_there) (λ w. (tops : FlatTops) × (m : Worth) × (are : Definitions_are W ds entry tops m) × Result_shaped N (exactly τ) m no_frames (W.sizing.size_at (W.sizing.home entry.0)) arguments (fit tops m are) (value_shape w)) (Flat_means (told W) (plain W.tight) W.budget ds entry arguments)
+
+-- and where it reports a size, that is at one of the places where `:>` and `unflatten` stand in its definitions
+abbrev pub SizedProgramsReportNoOtherSizes : Type 0
+SizedProgramsReportNoOtherSizes = (N : Names) (types : Sub) (τ : Variable → Shape) (W : World) (ds : List Named_term) (entry : BindId) (arguments : List FlatValue)
+    → Sound N types W.sizing → One_shape_each τ → Program_sized N types W.sizing.size_at W.sizing.home (map as_defined ds) → Plain_definitions N types W ds 0 → Definitions_there W.is_there ds
+    → ((tops : FlatTops) (m : Worth) → Definitions_are W ds entry tops m → Data_arguments N (exactly τ) m no_frames (W.sizing.size_at (W.sizing.home entry.0)) arguments)
+    → (r : Report) (words : ℕ) → Flat_means (told W) (plain W.tight) W.budget ds entry arguments (Fail r) words → r.kind ≡ kind.Size → W.is_there r.place ≡ true

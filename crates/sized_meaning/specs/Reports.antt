@@ -6,11 +6,6 @@ use Rattle.fut_scalar.specs.declared.place.Place.{Place}
 use Rattle.fut_scalar.specs.declared.report.FailKind.TheVariants as kind
 use Rattle.fut_scalar.specs.declared.report.Report.{Report}
 use Rattle.fut_flat.specs.declared.prim.Primitive.{Primitive}
-use Rattle.fut_flat.specs.declared.prim.Primitive.TheVariants as prim
-use Rattle.fut_flat.specs.declared.prim.Ref.{Ref}
-use Rattle.fut_flat.specs.declared.prim.Ref.TheVariants as ref
-use Rattle.fut_flat.specs.Erased.{FlatTerm, FlatTurns}
-use Rattle.fut_flat.specs.Terms.{Operation, Coerce, Use, Strict, Lambda, Apply, Let, If, Loop, Terms, no_term, term_and, Counted, Over, While}
 use Rattle.fut_primitives.specs.declared.written.Letter.{Letter}
 use Rattle.fut_primitives.specs.declared.written.Size.{Size as Length}
 use Rattle.fut_primitives.specs.Table.{written, own_of, from_of}
@@ -21,52 +16,21 @@ use Rattle.fut_meaning.specs.Found.{Told}
 use Rattle.fut_meaning.specs.Meaning.{plain, unrestricted}
 use Rattle.fut_meaning.specs.Outcomes.{Fail, Wrong}
 use Rattle.fut_meaning.specs.Values.{Scalar_value, Tuple_value, Record_value, Array_value, Closure, Primitive_value, no_value, value_and, no_field, field_and, base, bind, entered}
+use Rattle.sized_meaning.specs.There.{Primitive_there, Term_there}
 use Rattle.sized_meaning.specs.Fits.{FlatValues, FlatFields}
 use Rattle.sized_meaning.specs.Law.{World}
 use Rattle.sized_meaning.specs.Misfits.{Of_shapes, data_taken, Function_fits, applies, primitive_gives, Made_of_shapes}
 
--- each `:>` and each `unflatten` stands at one of these places
+-- in the functions that values are and hold each `:>` and each `unflatten` stands at one of these places
 module _ (is_there : Place → Bool) where
-  abbrev pub Primitive_there : Primitive → Place → Type 0
-  Primitive_there prim.Unflatten at = is_there at ≡ true
-  Primitive_there p at = Unit {0}
-
-  abbrev pub Use_there : Ref → Place → Type 0
-  Use_there (ref.Prim p) at = Primitive_there p at
-  Use_there r at = Unit {0}
-
-  abbrev pub Operation_there : Operation Ref BindId → Place → Type 0
-  Operation_there (Coerce e) at = is_there at ≡ true
-  Operation_there o at = Unit {0}
-
-  unfoldable mutual
-    pub Term_there : FlatTerm → Type 0
-    Term_there (Use r at k) = Use_there r at
-    Term_there (Strict o mark ts) = Operation_there o mark × Terms_there ts
-    Term_there (Lambda ps e) = Term_there e
-    Term_there (Apply f e) = Term_there f × Term_there e
-    Term_there (Let b v e) = Term_there v × Term_there e
-    Term_there (If c a b) = Term_there c × Term_there a × Term_there b
-    Term_there (Loop mark sizes p first turns body) = Term_there first × Turns_there turns × Term_there body
-
-    pub Terms_there : Terms Ref BindId → Type 0
-    Terms_there no_term = Unit {0}
-    Terms_there (term_and t ts) = Term_there t × Terms_there ts
-
-    pub Turns_there : FlatTurns → Type 0
-    Turns_there (Counted i n) = Term_there n
-    Turns_there (Over p e) = Term_there e
-    Turns_there (While c) = Term_there c
-
-  -- in the functions that values are and hold
   unfoldable mutual
     pub Value_there : FlatValue → Type 0
     Value_there (Scalar_value s) = Unit {0}
     Value_there (Tuple_value vs) = Values_there vs
     Value_there (Record_value fs) = Fields_there fs
     Value_there (Array_value row ds) = Unit {0}
-    Value_there (Closure ps e lo env) = Term_there e × Env_there env
-    Value_there (Primitive_value p at vs) = Primitive_there p at × Values_there vs
+    Value_there (Closure ps e lo env) = Term_there is_there e × Env_there env
+    Value_there (Primitive_value p at vs) = Primitive_there is_there p at × Values_there vs
 
     pub Values_there : FlatValues → Type 0
     Values_there no_value = Unit {0}
@@ -83,7 +47,7 @@ module _ (is_there : Place → Bool) where
 
   abbrev pub Definitions_there : List Named_term → Type 0
   Definitions_there [] = Unit {0}
-  Definitions_there (d ∷ ds) = Term_there d.1 × Definitions_there ds
+  Definitions_there (d ∷ ds) = Term_there is_there d.1 × Definitions_there ds
 
   abbrev pub Arguments_there : List FlatValue → Type 0
   Arguments_there [] = Unit {0}

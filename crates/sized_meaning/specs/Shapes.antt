@@ -1,5 +1,5 @@
 -- Which shapes data of a sized type has, and which data is of it.
-use Rattle.std.specs.Prelude.{◌≡◌, ℕ, suc, cond, length, Option, Some, None}
+use Rattle.std.specs.Prelude.{◌≡◌, ℕ, suc, ◌<◌, true, List, [], ◌∷◌, cond, length, Option, Some, None}
 use Rattle.std.specs.Str.{bytes_eq}
 use Rattle.fut_ast.specs.Sorts.{Text}
 use Rattle.fut_arithmetic.specs.Types.{type_of}
@@ -8,20 +8,11 @@ use Rattle.fut_types.specs.declared.Head.{Head}
 use Rattle.fut_types.specs.declared.Head.TheVariants as head
 use Rattle.fut_types.specs.Shapes.{place}
 use Rattle.fut_typing.specs.Names.{Names}
-use Rattle.fut_value.specs.Data.{Shape, Scalar_shape, Tuple_shape, Record_shape, Array_shape, Shapes, no_shape, shape_and, Named_shapes, Datum, Scalar_datum, Tuple_datum, Record_datum, Array_datum, Datums, no_datum, datum_and, Named_datums, no_named, named_and, listed, shape_of}
+use Rattle.fut_value.specs.Data.{Shape, Scalar_shape, Tuple_shape, Record_shape, Array_shape, Shapes, no_shape, shape_and, Named_shapes, no_named_shape, named_shape_and, Datum, Scalar_datum, Tuple_datum, Record_datum, Array_datum, Datums, no_datum, datum_and, Named_datums, no_named, named_and, listed, shape_of}
 use Rattle.fut_meaning.specs.Places.{field_shape}
+use Rattle.fut_meaning.specs.Values.{is_before}
 use Rattle.sized_types.specs.Sizes.{Variable, Size, Hole, Open, Level, Built, Fun, Sizes, no_size, size_and}
 use Rattle.sized_meaning.specs.Worth.{Worth, Frames, number}
-
--- ---- what a type variable stands for: data, of these shapes
-
-pub record Kind_of_data : Type 1 where
-  pub shape : Shape → Type 0
-  pub datum : Datum → Type 0
-  pub shaped : (d : Datum) → datum d → shape (shape_of d)
-
-abbrev pub Meant : Type 1
-Meant = Variable → Kind_of_data
 
 -- each row of an array has the shape that the array keeps, in its parts too
 unfoldable mutual
@@ -43,9 +34,43 @@ unfoldable mutual
   Rows_whole row no_datum = Unit {0}
   Rows_whole row (datum_and d ds) = (shape_of d ≡ row) × Whole d × Rows_whole row ds
 
--- whole data of one shape
+-- ---- what a type variable stands for: whole data, of one shape
+
+pub record Kind_of_data : Type 1 where
+  pub shape : Shape → Type 0
+  pub datum : Datum → Type 0
+  pub shaped : (d : Datum) → datum d → shape (shape_of d)
+  pub whole : (d : Datum) → datum d → Whole d
+  pub one : Shape
+  pub alone : (h : Shape) → shape h → h ≡ one
+
+abbrev pub Meant : Type 1
+Meant = Variable → Kind_of_data
+
 abbrev pub exactly : (Variable → Shape) → Meant
-exactly τ v = record { shape = λ h. h ≡ τ v; datum = λ d. (shape_of d ≡ τ v) × Whole d; shaped = λ d e. e.0 }
+exactly τ v = record { shape = λ h. h ≡ τ v; datum = λ d. (shape_of d ≡ τ v) × Whole d; shaped = λ d e. e.0; whole = λ d e. e.1; one = τ v; alone = λ h e. e }
+
+-- ---- the fields of records stand in the order of their names
+
+abbrev pub Each_name : (Text → Type 0) → List Text → Type 0
+Each_name P [] = Unit {0}
+Each_name P (f ∷ fs) = P f × Each_name P fs
+
+abbrev pub In_order : List Text → Type 0
+In_order [] = Unit {0}
+In_order (f ∷ fs) = Each_name (λ g. is_before f g ≡ true) fs × In_order fs
+
+-- each has a part of the record with this number, one of the first ones, which are so many
+abbrev pub Record_names : Names → ℕ → ℕ → List Text → Type 0
+Record_names N n k fs = Each_name (λ f. (i : ℕ) × (place N.shapes (N.label f) (head.Record n) ≡ Some i) × (i < k)) fs × In_order fs
+
+abbrev pub shape_names : Named_shapes → List Text
+shape_names no_named_shape = []
+shape_names (named_shape_and f h hs) = f ∷ shape_names hs
+
+abbrev pub datum_names : Named_datums → List Text
+datum_names no_named = []
+datum_names (named_and f d ds) = f ∷ datum_names ds
 
 -- ---- shapes
 
@@ -136,9 +161,9 @@ module _ (N : Names) (τ : Meant) where
     Have_shapes m φ no_size hs = No_shape hs
     Have_shapes m φ (size_and t ts) hs = First_shape (Has_shape m φ t) (Have_shapes m φ ts) hs
 
-    -- the record with this number has its fields, from a part on
+    -- the record with this number has its fields, from a part on, and no others
     pub Have_named : Worth → Frames → ℕ → ℕ → Sizes → Named_shapes → Type 0
-    Have_named m φ n i no_size hs = Unit {0}
+    Have_named m φ n i no_size hs = Record_names N n i (shape_names hs)
     Have_named m φ n i (size_and t ts) hs = ((f : Text) → place N.shapes (N.label f) (head.Record n) ≡ Some i → (h : Shape) × (field_shape f hs ≡ Some h) × Has_shape m φ t h) × Have_named m φ n (suc i) ts hs
 
   -- data of a sized type: an array keeps the shape of its rows, also where it has none
@@ -155,5 +180,5 @@ module _ (N : Names) (τ : Meant) where
     Have_data m φ (size_and t ts) ds = First_datum (Has_datum m φ t) (Have_data m φ ts) ds
 
     pub Named_data : Worth → Frames → ℕ → ℕ → Sizes → Named_datums → Type 0
-    Named_data m φ n i no_size fs = Unit {0}
+    Named_data m φ n i no_size fs = Record_names N n i (datum_names fs)
     Named_data m φ n i (size_and t ts) fs = ((f : Text) → place N.shapes (N.label f) (head.Record n) ≡ Some i → (x : Datum) × (field_datum f fs ≡ Some x) × Has_datum m φ t x) × Named_data m φ n (suc i) ts fs

@@ -5,7 +5,7 @@ ghost use Rattle.sized_meaning.specs.Finding.{FoundIsRight, StandingIsFound, Tol
 ghost use Rattle.sized_meaning.specs.Law.{ValuesHaveTheirSizes};
 ghost use Rattle.sized_meaning.specs.Misfits.{DataIsOfItsShape, NoOperationMisfits, NoPrimitiveMisfits};
 ghost use Rattle.sized_meaning.specs.Reports.{OperationsReportNoSizes, OtherSizesMisfit, PrimitivesReportNoSizes, SizesAreReportedThere};
-ghost use Rattle.sized_meaning.specs.Programs.{DefinitionsAreEntered, ProgramsGiveTheirShapes, ProgramsHaveTheirSizes, SizedProgramsFind};
+ghost use Rattle.sized_meaning.specs.Programs.{DefinitionsAreEntered, ProgramsGiveTheirShapes, ProgramsHaveTheirSizes, SizedProgramsReportNoOtherSizes};
 
 /// Where a sized type suits another, each value of the one is of the other.
 #[tactic(auto, using(crate::proofs::Suiting::suiting_values_fit))]
@@ -16,7 +16,8 @@ pub fn suiting_values_fit()
 /// Each value that a sized term may give is of its sized type, for terms of names and names of sizes, scalars, array literals,
 /// ranges, elements, slices and updates of arrays, records, tuples, their parts and changes of fields, coercions,
 /// functions and what they declare, applications, lets, also of functions of one type, branches, loops and all primitives, `map2`
-/// to `map5` where results hold no arrays; patterns may take the parts of tuples and records, and name sizes.
+/// to `map5` where results hold no arrays; patterns may take the parts of tuples and records, and name sizes. And where it reports a
+/// size, that is at one of its `:>` or `unflatten`.
 #[tactic(auto, using(crate::proofs::Law::values_have_their_sizes))]
 pub fn values_have_their_sizes()
     ensures { ValuesHaveTheirSizes }
@@ -36,10 +37,10 @@ pub fn programs_give_their_shapes()
     ensures { ProgramsGiveTheirShapes }
 {}
 
-/// Each program that is sized by the rules of `fut_sizes` is one of these: there a definition finds no numbers of others.
-#[tactic(auto, using(crate::proofs::Programs::sized_programs_find))]
-pub fn sized_programs_find()
-    ensures { SizedProgramsFind }
+/// Where a sized program reports a size on data of its entry's sized type, that is at one of its `:>` or `unflatten`.
+#[tactic(auto)]
+pub fn sized_programs_report_no_other_sizes()
+    ensures { SizedProgramsReportNoOtherSizes }
 {}
 
 /// Each definition begins with the data of those before it, entered right: what is found there of sizes is what they are worth.
@@ -100,7 +101,7 @@ pub fn no_operation_misfits()
     ensures { NoOperationMisfits }
 {}
 
-/// Data of a sized type without records is whole and of the shape that is told of the type.
+/// Data of a sized type is whole and of the shape that is told of the type.
 #[tactic(auto)]
 pub fn data_is_of_its_shape()
     ensures { DataIsOfItsShape }

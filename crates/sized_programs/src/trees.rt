@@ -16,13 +16,14 @@ use fut_types::{Head, Kind};
 use size_arena::TypeTree;
 use std::alloc::Global;
 use type_graph::{Form, Node, node_of};
+use unique_programs::is_given;
 
 /// No type is deeper than this: it is gone down by calls, here and in the pass over sizes.
 const DEEPEST: u32 = 4096;
 
-/// The types of a program's nodes have no more parts together than this, as they are written out: more is want of memory. The pass
-/// over sizes goes through each by itself, so that pairs of pairs, which are small as long as they are shared, would fill the
-/// machine.
+/// The types of a program's nodes have no more parts together than this, as they are written out, but for those of applications: more
+/// is want of memory. The pass over sizes goes through each by itself, so that pairs of pairs, which are small as long as they are
+/// shared, would fill the machine.
 const MOST_PARTS: u64 = 67108864;
 
 /// How high a tree is.
@@ -238,11 +239,19 @@ fn left_behind(tree: &TypeTree<'_>, left: u64) -> Option<u64> {
     }
 }
 
-/// Whether trees have no more parts together than they may.
-fn are_within(trees: &[TypeTree<'_>]) -> bool {
+/// Whether the types of the first nodes have no more parts together than they may. One that the next node's gives is counted with
+/// that: of an application of many arguments the pass over sizes goes through the type of its function alone.
+fn are_within(nodes: &List<Node>, trees: &[TypeTree<'_>], count: u32) -> bool
+    requires graph { IsGraph nodes.now }
+    requires count { count ≤ length nodes.now }
+    requires long { length trees.now ≡ count }
+{
     let mut left = MOST_PARTS;
-    for tree in trees {
-        match left_behind(tree, left) {
+    for at in 0..count {
+        if at < count - 1 && is_given(nodes, at) {
+            continue;
+        }
+        match left_behind(&trees[at as usize], left) {
             Some(fewer) => left = fewer,
             None => return false,
         }
@@ -267,7 +276,7 @@ pub fn type_trees<'a>(
         make(bump, nodes, &mut made, at, DEEPEST)?;
     }
     let trees = made_row(bump, &made, 0, count)?;
-    if !are_within(trees) {
+    if !are_within(nodes, trees, count) {
         return Err(NoMemory);
     }
     Ok(trees)

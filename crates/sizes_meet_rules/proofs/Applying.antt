@@ -112,7 +112,7 @@ module _ (τ : Found) where
   mutual
     unfolding read all_read Each Each_all Each_hole Each_holes
 
-    read_settled : (t : Size) (j : ℕ) → Each (Scoped Is_settled) j t → Each_hole Any_variable t → read τ t ≡ t
+    pub read_settled : (t : Size) (j : ℕ) → Each (Scoped Is_settled) j t → Each_hole Any_variable t → read τ t ≡ t
     read_settled (Hole v) j s h = refl
     read_settled (Open n v u) j s h = absurd h
     read_settled (Level (At d) t) j s h = ap (λ w. Level (At w) (read τ t)) (found_settled τ d s.0) ∙ ap (Level (At d)) (read_settled t j s.1 h)

@@ -11,7 +11,7 @@ use Rattle.fut_flat.specs.declared.prim.Ref.TheVariants as ref
 use Rattle.fut_flat.specs.Terms.{Size_use, Array_type, Type_use, no_arg, Size_parameter, Typed_pattern, Bound_pattern, no_pattern, pattern_and, Integer, Range, Use, Strict, Lambda, Apply, Let, no_term, term_and}
 use Rattle.fut_flat.specs.Erased.{FlatTerm, FlatPattern}
 use Rattle.fut_types.specs.declared.Kind.TheVariants as kind
-use Rattle.fut_types.specs.Types.{Sub, fun_ty}
+use Rattle.fut_types.specs.Types.{Ty, Sub, fun_ty}
 use Rattle.fut_typing.specs.Names.{Names}
 use Rattle.fut_typing.specs.Primitives.{array_ty, i64_ty}
 use Rattle.fut_sizes.specs.Agreeing.{is_among, Answer, then_do, agree, all_agree, kept, all_kept, leaving, type_levels, all_type_levels, of_type, of_types}
@@ -22,7 +22,7 @@ use Rattle.fut_sizes.specs.Operations.{elements_agree, slice_size, indexed, upda
 use Rattle.fut_sizes.specs.Primitives.{scalar_size, sized_type, prim_size}
 use Rattle.fut_sizes.specs.Programs.{no_state, sizing}
 use Rattle.fut_sizes.specs.Scopes.{nothing, type_of, type_in, instance, instances, used, taken, all_taken, fields_taken, bound_by}
-use Rattle.sized_types.specs.Sizes.{Name, Bound, Size, Level, Fun, erased, all_erased, is_free, is_dim, levels, all_levels, replaced, all_replaced, has, some_has, takes, some_takes}
+use Rattle.sized_types.specs.Sizes.{Name, At, Bound, Size, Level, Fun, erased, all_erased, is_free, is_dim, levels, all_levels, replaced, all_replaced, has, some_has, takes, some_takes}
 use Rattle.fut_sizes.specs.Levels.{levels_within, all_levels_within}
 use Rattle.fut_sizes.specs.Sizing.{finished, is_open, some_open, matched, lacking, all_lacking, differing, all_differing, turns_from, pattern_noted, patterns_noted, fields_noted, sized, all_sized, turns_sized, condition_sized, right_sized, inner_sized}
 use Rattle.fut_sizes.specs.WrittenSizes.{part_of, changed_part, has_sizes, all_have_sizes, fields_have_sizes, with_sizes, all_with_sizes, fields_with_sizes, ascribed, coerced, coercion, parameter_size, declared}
@@ -33,7 +33,7 @@ use Rattle.fut_typing.specs.Program.{Defined, Program_typed}
 use Rattle.fut_typing.specs.Typing.{Typed}
 use Rattle.fut_sizes.specs.ProgramRules.{Program_sized}
 use Rattle.fut_sizes.specs.Applications.{Part}
-use Rattle.fut_sizes.specs.Rules.{Each_hole, Each_holes, Sized}
+use Rattle.fut_sizes.specs.Rules.{Sized}
 use Rattle.fut_sizes.specs.Scoping.{nothing_known}
 use Rattle.fut_sizes.specs.Steps.{Done}
 use Rattle.sizes_meet_rules.specs.Plain.{Head_at, Plain_term, Plain_definitions, Formed_type, Formed_types, Flat_type, Flat_types}
@@ -152,8 +152,8 @@ head_of_n = record { apart = λ c e. subst (λ d. is_among (5 ∷ []) d ≡ fals
 program_plain : Plain_definitions node_types homes K kind.Data N program 0
 unfolding Formed_type Formed_types rank least agree all_agree kept all_kept leaving type_levels all_type_levels of_type of_types all_settled parts_settled data_met functions_met all_matched applied collected all_collected sizes_in function_size chosen_in quantified closed filled all_filled read all_read opened_inside compared all_compared meet all_meet elements_agree slice_size indexed updated operation sized_type prim_size sizing type_of type_in instance instances used taken all_taken fields_taken bound_by erased all_erased is_free is_dim levels all_levels levels_within all_levels_within replaced all_replaced has some_has takes some_takes is_open some_open matched lacking all_lacking differing all_differing turns_from pattern_noted patterns_noted fields_noted sized all_sized turns_sized condition_sized right_sized inner_sized part_of changed_part has_sizes all_have_sizes fields_have_sizes with_sizes all_with_sizes fields_with_sizes ascribed coerced coercion parameter_size declared
 program_plain = (
-  (refl, tt, (tt, (tt, tt)), tt, (head_of_n, (none_chosen node_types homes K kind.Data N (Bound_pattern (b 2)) 3, tt)), (((tt, refl), tt, omega arith, (refl, tt, omega arith, tt)), (tt, (((scalar.Int int.I64, refl), tt), (inr refl, tt))))),
-  ((refl, tt, (tt, tt), tt, headed_none node_types homes K kind.Data N twice tt 8, ((refl, tt, omega arith, tt), (omega arith, (inl refl, omega arith, (tt, omega arith, refl, (tt, (((scalar.Int int.I64, refl), tt), (inl refl, tt)))), inl refl)))), tt),
+  (refl, inl (tt, (tt, (tt, tt)), tt, (head_of_n, (none_chosen node_types homes K kind.Data N (Bound_pattern (b 2)) 3, tt)), (((tt, refl), tt, omega arith, (refl, tt, omega arith, tt)), (tt, (((scalar.Int int.I64, refl), tt), (inr refl, tt)))))),
+  ((refl, inl (tt, (tt, tt), tt, headed_none node_types homes K kind.Data N twice tt 8, ((refl, tt, omega arith, tt), (omega arith, (inl (omega arith, (inl (omega arith, (refl, refl)), (tt, (((scalar.Int int.I64, refl), tt), (inl refl, tt))))), inl refl))))), tt),
 )
 
 -- a caller that gives a gets an array of a numbers
@@ -189,22 +189,24 @@ k_at_home : (c : ℕ) → is_among (6 ∷ []) c ≡ true → (count_homes c ≡ 
 k_at_home c e = subst (λ d. (count_homes d ≡ 4) × (is_among (7 ∷ []) d ≡ false)) (sym (one_among c 6 e)) (refl, refl)
 
 counting_plain : Plain_definitions count_types count_homes K kind.Data N counting 0
-unfolding Formed_type Formed_types Flat_type Flat_types Each_hole Each_holes rank least agree all_agree kept all_kept leaving type_levels all_type_levels of_type of_types all_settled parts_settled data_met functions_met all_matched applied collected all_collected sizes_in function_size chosen_in quantified closed filled all_filled read all_read opened_inside compared all_compared meet all_meet elements_agree slice_size indexed updated operation sized_type prim_size sizing type_of type_in instance instances used taken all_taken fields_taken bound_by erased all_erased is_free is_dim levels all_levels levels_within all_levels_within replaced all_replaced has some_has takes some_takes is_open some_open matched lacking all_lacking differing all_differing turns_from pattern_noted patterns_noted fields_noted sized all_sized turns_sized condition_sized right_sized inner_sized part_of changed_part has_sizes all_have_sizes fields_have_sizes with_sizes all_with_sizes fields_with_sizes ascribed coerced coercion parameter_size declared
+unfolding Formed_type Formed_types rank least agree all_agree kept all_kept leaving type_levels all_type_levels of_type of_types all_settled parts_settled data_met functions_met all_matched applied collected all_collected sizes_in function_size chosen_in quantified closed filled all_filled read all_read opened_inside compared all_compared meet all_meet elements_agree slice_size indexed updated operation sized_type prim_size sizing type_of type_in instance instances used taken all_taken fields_taken bound_by erased all_erased is_free is_dim levels all_levels levels_within all_levels_within replaced all_replaced has some_has takes some_takes is_open some_open matched lacking all_lacking differing all_differing turns_from pattern_noted patterns_noted fields_noted sized all_sized turns_sized condition_sized right_sized inner_sized part_of changed_part has_sizes all_have_sizes fields_have_sizes with_sizes all_with_sizes fields_with_sizes ascribed coerced coercion parameter_size declared
 counting_plain = (
   (
     refl,
-    tt,
-    (tt, tt),
-    tt,
-    headed_none count_types count_homes K kind.Data N counted_down tt 1,
-    (
-      (refl, tt, omega arith, tt),
+    inl (
+      tt,
+      (tt, tt),
+      tt,
+      headed_none count_types count_homes K kind.Data N counted_down tt 1,
       (
-        (tt, tt, refl, λ c e. k_at_home c e),
-        refl,
-        inl (omega arith),
-        (omega arith, (tt, omega arith, (tt, ((tt, tt), (tt, tt))), (omega arith, (inl refl, omega arith, (tt, (tt, tt)), inl refl)))),
-        (tt, (((scalar.Int int.I64, refl), tt), (inr refl, tt))),
+        (refl, tt, omega arith, tt),
+        (
+          (tt, tt, refl, λ c e. k_at_home c e),
+          refl,
+          inl (omega arith),
+          (omega arith, (inl (omega arith, tt), (omega arith, (inl (omega arith, tt), inl refl)))),
+          (tt, (((scalar.Int int.I64, refl), tt), (inr refl, tt))),
+        ),
       ),
     ),
   ),
@@ -218,3 +220,97 @@ its_count = refl
 
 count_rules : (nodes : ℕ → Size) → Program_typed N kind.Data counting K count_types → sizing N count_types counting ≡ Ok nodes → Program_sized N count_types nodes count_homes counting
 count_rules nodes t e = (program_sizing_meets_rules N count_types count_homes K kind.Data counting nodes (omega arith) counting_plain t e).0
+
+-- ---- a primitive whose variable stands for an array: `\m -> reverse (replicate m (iota m))`
+
+abbrev square : FlatTerm
+square = Lambda (pattern_and (Bound_pattern (b 4)) no_pattern) (Apply (primitive prim.Reverse) (Apply (Apply (primitive prim.Replicate) (named 4)) (Apply (primitive prim.Iota) (named 4))))
+
+abbrev rows : Ty
+rows = array_ty (array_ty i64_ty)
+
+-- 2 is the outer application, 4 the one of `replicate`, 8 the one of `iota`
+abbrev square_types : Sub
+square_types n = cond (nat_eq n 0) (fun_ty i64_ty rows) (cond (nat_eq n 3) (fun_ty rows rows) (cond (nat_eq n 5) (fun_ty (array_ty i64_ty) rows) (cond (nat_eq n 6) (fun_ty i64_ty (fun_ty (array_ty i64_ty) rows)) (cond (nat_eq n 8) (array_ty i64_ty) (cond (nat_eq n 9) (fun_ty i64_ty (array_ty i64_ty)) (cond (is_any (2 ∷ 4 ∷ []) n) rows i64_ty))))))
+
+abbrev square_homes : ℕ → ℕ
+square_homes n = 1
+
+square_plain : Plain_term square_types square_homes K kind.Data N square 0
+unfolding Formed_type Formed_types rank least
+square_plain = ((refl, tt, omega arith, tt), (omega arith, (inl (omega arith, tt), (omega arith, (inl (omega arith, (inl (omega arith, tt), inl refl)), (omega arith, (inl (omega arith, tt), inl refl)))))))
+
+abbrev square_part : Answer (Done Part)
+square_part = sized N square_types square [] 0 nothing no_state
+
+abbrev square_size : Answer (Done Size)
+square_size = then_do square_part (λ d. finished N square_types 0 d.result d.state)
+
+its_square : then_do square_size (λ d. Ok d.result) ≡ Ok (Fun 0 (scalar_size (scalar.Int int.I64)) (Level (Bound 0 0) (Level (Bound 0 0) (scalar_size (scalar.Int int.I64)))))
+unfolding agree all_agree kept all_kept leaving type_levels all_type_levels of_type of_types all_settled parts_settled data_met functions_met all_matched applied collected all_collected sizes_in function_size chosen_in quantified closed filled all_filled read all_read opened_inside compared all_compared meet all_meet elements_agree slice_size indexed updated operation sized_type prim_size sizing type_of type_in instance instances used taken all_taken fields_taken bound_by erased all_erased is_free is_dim levels all_levels levels_within all_levels_within replaced all_replaced has some_has takes some_takes is_open some_open matched lacking all_lacking differing all_differing turns_from pattern_noted patterns_noted fields_noted sized all_sized turns_sized condition_sized right_sized inner_sized part_of changed_part has_sizes all_have_sizes fields_have_sizes with_sizes all_with_sizes fields_with_sizes ascribed coerced coercion parameter_size declared
+its_square = refl
+
+square_rules : (u : Done Size) → Typed N kind.Data square 0 no_types K square_types → square_size ≡ Ok u → Sized N square_types u.state.nodes square_homes square 0 nothing_known
+square_rules u t e = let x = then_ok square_part e in (sizing_meets_rules N square_types square_homes K kind.Data square 0 no_state x.first u (omega arith) square_plain t x.done x.rest).0
+
+-- ---- a lambda among the arguments of a primitive: `\m -> map (\i -> iota m) (iota m)`
+
+abbrev mapping : FlatTerm
+mapping = Lambda (pattern_and (Bound_pattern (b 4)) no_pattern) (Apply (Apply (primitive prim.Map) (Lambda (pattern_and (Bound_pattern (b 5)) no_pattern) (Apply (primitive prim.Iota) (named 4)))) (Apply (primitive prim.Iota) (named 4)))
+
+-- 2 is the application of `map`, 5 the inner lambda, and 7 and 10 those of `iota`
+abbrev map_types : Sub
+map_types n = cond (nat_eq n 0) (fun_ty i64_ty rows) (cond (nat_eq n 2) rows (cond (nat_eq n 3) (fun_ty (array_ty i64_ty) rows) (cond (nat_eq n 4) (fun_ty (fun_ty i64_ty (array_ty i64_ty)) (fun_ty (array_ty i64_ty) rows)) (cond (is_any (5 ∷ 8 ∷ 11 ∷ []) n) (fun_ty i64_ty (array_ty i64_ty)) (cond (is_any (7 ∷ 10 ∷ []) n) (array_ty i64_ty) i64_ty)))))
+
+abbrev map_homes : ℕ → ℕ
+map_homes n = cond (nat_eq n 5) 6 1
+
+map_plain : Plain_term map_types map_homes K kind.Data N mapping 0
+unfolding Formed_type Formed_types Flat_type Flat_types rank least
+map_plain = (
+  (refl, tt, omega arith, tt),
+  (omega arith, (inl (omega arith, (inr (refl, (((tt, tt), tt), omega arith), tt), ((refl, tt, omega arith, tt), (omega arith, (inl (omega arith, tt), inl refl))))), (omega arith, (inl (omega arith, tt), inl refl)))),
+)
+
+abbrev map_part : Answer (Done Part)
+map_part = sized N map_types mapping [] 0 nothing no_state
+
+abbrev map_size : Answer (Done Size)
+map_size = then_do map_part (λ d. finished N map_types 0 d.result d.state)
+
+its_map : then_do map_size (λ d. Ok d.result) ≡ Ok (Fun 0 (scalar_size (scalar.Int int.I64)) (Level (Bound 0 0) (Level (Bound 0 0) (scalar_size (scalar.Int int.I64)))))
+unfolding agree all_agree kept all_kept leaving type_levels all_type_levels of_type of_types all_settled parts_settled data_met functions_met all_matched applied collected all_collected sizes_in function_size chosen_in quantified closed filled all_filled read all_read opened_inside compared all_compared meet all_meet elements_agree slice_size indexed updated operation sized_type prim_size sizing type_of type_in instance instances used taken all_taken fields_taken bound_by erased all_erased is_free is_dim levels all_levels levels_within all_levels_within replaced all_replaced has some_has takes some_takes is_open some_open matched lacking all_lacking differing all_differing turns_from pattern_noted patterns_noted fields_noted sized all_sized turns_sized condition_sized right_sized inner_sized part_of changed_part has_sizes all_have_sizes fields_have_sizes with_sizes all_with_sizes fields_with_sizes ascribed coerced coercion parameter_size declared
+its_map = refl
+
+map_rules : (u : Done Size) → Typed N kind.Data mapping 0 no_types K map_types → map_size ≡ Ok u → Sized N map_types u.state.nodes map_homes mapping 0 nothing_known
+map_rules u t e = let x = then_ok map_part e in (sizing_meets_rules N map_types map_homes K kind.Data mapping 0 no_state x.first u (omega arith) map_plain t x.done x.rest).0
+
+-- ---- a definition that is a number, and one that takes it as a size: `def n = 10` and `def main x = 0..<n`
+
+abbrev to_n : FlatTerm
+to_n = Lambda (pattern_and (Bound_pattern (b 2)) no_pattern) (up_to 0)
+
+abbrev numbered : List Defined
+numbered = record { name = Bound_pattern (b 0); parameters = []; value = Strict (Integer 10 None) here no_term } ∷ record { name = Bound_pattern (b 1); parameters = []; value = to_n } ∷ []
+
+-- 0 and 1 are those of n, 2 to 7 those of main
+abbrev number_types : Sub
+number_types n = cond (is_any (2 ∷ 3 ∷ []) n) (fun_ty i64_ty (array_ty i64_ty)) (cond (nat_eq n 5) (array_ty i64_ty) i64_ty)
+
+abbrev number_homes : ℕ → ℕ
+number_homes n = cond (nat_eq n 0) 0 (cond (nat_eq n 1) 2 4)
+
+numbered_plain : Plain_definitions number_types number_homes K kind.Data N numbered 0
+unfolding Formed_type Formed_types rank least
+numbered_plain = (
+  (refl, inr (refl, ((scalar.Int int.I64, refl), tt))),
+  ((refl, inl (tt, (tt, tt), tt, headed_none number_types number_homes K kind.Data N to_n tt 3, ((refl, tt, omega arith, tt), (tt, (((scalar.Int int.I64, refl), tt), (inl refl, tt)))))), tt),
+)
+
+-- main gives an array of n numbers
+its_numbered : then_do (sizing N number_types numbered) (λ s. Ok (s 2)) ≡ Ok (Fun 0 (scalar_size (scalar.Int int.I64)) (Level (At (Name 0)) (scalar_size (scalar.Int int.I64))))
+unfolding agree all_agree kept all_kept leaving type_levels all_type_levels of_type of_types all_settled parts_settled data_met functions_met all_matched applied collected all_collected sizes_in function_size chosen_in quantified closed filled all_filled read all_read opened_inside compared all_compared meet all_meet elements_agree slice_size indexed updated operation sized_type prim_size sizing type_of type_in instance instances used taken all_taken fields_taken bound_by erased all_erased is_free is_dim levels all_levels levels_within all_levels_within replaced all_replaced has some_has takes some_takes is_open some_open matched lacking all_lacking differing all_differing turns_from pattern_noted patterns_noted fields_noted sized all_sized turns_sized condition_sized right_sized inner_sized part_of changed_part has_sizes all_have_sizes fields_have_sizes with_sizes all_with_sizes fields_with_sizes ascribed coerced coercion parameter_size declared
+its_numbered = refl
+
+numbered_rules : (nodes : ℕ → Size) → Program_typed N kind.Data numbered K number_types → sizing N number_types numbered ≡ Ok nodes → Program_sized N number_types nodes number_homes numbered
+numbered_rules nodes t e = (program_sizing_meets_rules N number_types number_homes K kind.Data numbered nodes (omega arith) numbered_plain t e).0

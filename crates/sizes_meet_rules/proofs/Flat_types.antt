@@ -1,12 +1,15 @@
 -- Types without arrays: their sized types have no sizes, so that each is one sized type.
-use Rattle.std.proofs.Common.{◌≡◌, ℕ, Ok, refl, ap, ◌∙◌, arith}
+use Rattle.std.proofs.Common.{◌≡◌, ℕ, ◌+◌, List, Bool, false, ◌||◌, Ok, refl, ap, ◌∙◌, arith}
+use Rattle.fut_types.specs.declared.Head.TheVariants as head
 use Rattle.fut_types.specs.Types.{Ty, Var, Made, Tys, none, more}
-use Rattle.sized_types.specs.Sizes.{Dim, Variable, Inferred, Written, Size, Hole, Open, Level, Built, Fun, Sizes, no_size, size_and, erased, all_erased, replaced, all_replaced}
-use Rattle.fut_sizes.specs.Agreeing.{then_do}
+use Rattle.sized_types.specs.Sizes.{Free, Dim, Variable, Inferred, Written, Size, Hole, Open, Level, Built, Fun, Sizes, no_size, size_and, erased, all_erased, replaced, all_replaced}
+use Rattle.fut_sizes.specs.Agreeing.{then_do, type_levels, of_type, of_types}
 use Rattle.fut_sizes.specs.Applications.{all_settled, parts_settled}
+use Rattle.fut_sizes.specs.Functions.{collected, all_collected}
 use Rattle.fut_sizes.specs.Levels.{levels_within, all_levels_within}
-use Rattle.fut_sizes.specs.Matching.{Found, Way, filled, all_filled, read, all_read, Opened, none_opened, data_way, compared, all_compared, meet, all_meet}
+use Rattle.fut_sizes.specs.Matching.{Found, Way, filled, all_filled, read, all_read, Opened, compared, all_compared, meet, all_meet}
 use Rattle.fut_sizes.specs.Rules.{Each_hole, Each_holes}
+use Rattle.fut_sizes.specs.Sizing.{is_open, some_open}
 use Rattle.fut_sizes.specs.Suiting.{Each, Each_all, Data, All_data}
 use Rattle.sizes_meet_rules.specs.Known.{Formed, All_formed}
 use Rattle.sizes_meet_rules.specs.Plain.{Flat_type, Flat_types}
@@ -151,13 +154,13 @@ mutual
 mutual
   unfolding flat flats meet all_meet
 
-  pub flat_met : (lo at : ℕ) (φ : Opened) (u : Ty) (σ : Found) → meet lo data_way at φ (flat u) none_opened (flat u) σ ≡ Ok σ
-  flat_met lo at φ (Var x) σ = refl
-  flat_met lo at φ (Made h ts) σ = flats_met lo at φ ts σ
+  pub flat_met : (lo at : ℕ) (w : Way) (φ ψ : Opened) (u : Ty) (σ : Found) → meet lo w at φ (flat u) ψ (flat u) σ ≡ Ok σ
+  flat_met lo at w φ ψ (Var x) σ = refl
+  flat_met lo at w φ ψ (Made h ts) σ = flats_met lo at w φ ψ ts σ
 
-  flats_met : (lo at : ℕ) (φ : Opened) (us : Tys) (σ : Found) → all_meet lo data_way at φ (flats us) none_opened (flats us) σ ≡ Ok σ
-  flats_met lo at φ none σ = refl
-  flats_met lo at φ (more u us) σ = ap (λ x. then_do x (λ found. all_meet lo data_way at φ (flats us) none_opened (flats us) found)) (flat_met lo at φ u σ) ∙ flats_met lo at φ us σ
+  flats_met : (lo at : ℕ) (w : Way) (φ ψ : Opened) (us : Tys) (σ : Found) → all_meet lo w at φ (flats us) ψ (flats us) σ ≡ Ok σ
+  flats_met lo at w φ ψ none σ = refl
+  flats_met lo at w φ ψ (more u us) σ = ap (λ x. then_do x (λ found. all_meet lo w at φ (flats us) ψ (flats us) found)) (flat_met lo at w φ ψ u σ) ∙ flats_met lo at w φ ψ us σ
 
 mutual
   unfolding flat flats compared all_compared
@@ -169,3 +172,45 @@ mutual
   flats_compared : (w : Way) (at : ℕ) (us : Tys) (σ : Found) → all_compared w at (flats us) (flats us) σ ≡ Ok σ
   flats_compared w at none σ = refl
   flats_compared w at (more u us) σ = ap (λ x. then_do x (λ found. all_compared w at (flats us) (flats us) found)) (flat_compared w at u σ) ∙ flats_compared w at us σ
+
+-- it is what the type has by itself
+mutual
+  unfolding flat flats Flat_type Flat_types of_type of_types
+
+  pub flat_of_type : (dims : ℕ → Dim) (i : ℕ) (u : Ty) → Flat_type u → of_type dims i u ≡ flat u
+  flat_of_type dims i (Var x) f = absurd f
+  flat_of_type dims i (Made (head.Scalar s) ts) f = ap (Built (head.Scalar s)) (flats_of_types dims i ts f.1)
+  flat_of_type dims i (Made head.Array ts) f = absurd f.0
+  flat_of_type dims i (Made head.Tuple ts) f = ap (Built head.Tuple) (flats_of_types dims i ts f.1)
+  flat_of_type dims i (Made (head.Record n) ts) f = ap (Built (head.Record n)) (flats_of_types dims i ts f.1)
+  flat_of_type dims i (Made head.Fun ts) f = absurd f.0
+  flat_of_type dims i (Made (head.Rigid n k) ts) f = absurd f.0
+  flat_of_type dims i (Made (head.Abstract n d) ts) f = ap (Built (head.Abstract n d)) (flats_of_types dims i ts f.1)
+
+  flats_of_types : (dims : ℕ → Dim) (i : ℕ) (us : Tys) → Flat_types us → of_types dims i us ≡ flats us
+  flats_of_types dims i none f = refl
+  flats_of_types dims i (more u us) f = ap (λ x. size_and x (of_types dims (type_levels u + i) us)) (flat_of_type dims i u f.0) ∙ ap (size_and (flat u)) (flats_of_types dims (type_levels u + i) us f.1)
+
+-- nothing in it is open
+mutual
+  unfolding flat flats is_open some_open
+
+  pub flat_closed : (u : Ty) → is_open (flat u) ≡ false
+  flat_closed (Var x) = refl
+  flat_closed (Made h ts) = flats_closed ts
+
+  flats_closed : (us : Tys) → some_open (flats us) ≡ false
+  flats_closed none = refl
+  flats_closed (more u us) = ap (λ b. b || some_open (flats us)) (flat_closed u) ∙ flats_closed us
+
+-- no size stands in it
+mutual
+  unfolding flat flats collected all_collected
+
+  pub flat_collected : (q : Free → Bool) (u : Ty) (ds : List Free) → collected q (flat u) ds ≡ ds
+  flat_collected q (Var x) ds = refl
+  flat_collected q (Made h ts) ds = flats_collected q ts ds
+
+  flats_collected : (q : Free → Bool) (us : Tys) (ds : List Free) → all_collected q (flats us) ds ≡ ds
+  flats_collected q none ds = refl
+  flats_collected q (more u us) ds = ap (all_collected q (flats us)) (flat_collected q u ds) ∙ flats_collected q us ds

@@ -2,16 +2,18 @@
 use Rattle.std.proofs.Common.{◌≡◌, ℕ, suc, ◌+◌, ◌<◌, ◌≤◌, Bool, true, false, cond, nat_eq, Option, Some, None, refl, sym, ap, ◌∙◌, arith}
 use Rattle.std.specs.Prelude.{min}
 use Rattle.fut_scalar.specs.declared.scalar.ScalarType.TheVariants as sort
+use Rattle.fut_scalar.specs.declared.scalar.IntType.TheVariants as int
+use Rattle.fut_typing.specs.Primitives.{i64_ty}
+use Rattle.fut_sizes.specs.Scopes.{i64_size}
 use Rattle.fut_types.specs.declared.Head.{Head}
 use Rattle.fut_types.specs.declared.Head.TheVariants as head
-use Rattle.fut_types.specs.Types.{Made, Tys, none, more, Kinds, rank, least, cap}
+use Rattle.fut_types.specs.Types.{Ty, Var, Made, none, more, Kinds, rank, least, cap}
 use Rattle.sized_types.specs.Sizes.{Free, Unknown, Dim, At, Bound, Variable, Inferred, Written, Size, Hole, Open, Level, Built, Fun, Sizes, no_size, size_and, erased, all_erased, is_dim, replaced, all_replaced, renaming, given, placed, binding, levels}
 use Rattle.fut_sizes.specs.Agreeing.{kept, all_kept}
 use Rattle.fut_sizes.specs.Rules.{Each_hole, Each_holes}
 use Rattle.fut_sizes.specs.Scoping.{is_number}
 use Rattle.fut_sizes.specs.Suiting.{Each, Each_all, Scoped, Of_positions, Data, All_data}
-use Rattle.sizes_meet_rules.specs.Known.{Formed, All_formed}
-use Rattle.sizes_meet_rules.specs.Plain.{number_ty}
+use Rattle.sizes_meet_rules.specs.Known.{head_i64, is_i64_size, Formed, All_formed}
 
 -- sizes by themselves are renamed, or bound in a frame further out
 pub renaming_keeps : (ρ : Free → Free) (Q : ℕ → Type 0) (m j : ℕ) (d : Dim) → m ≤ j → Of_positions Q m d → Of_positions Q m (renaming ρ j d)
@@ -34,42 +36,62 @@ given_keeps δ Q m j (Bound k i) l h = one (nat_eq (suc k) j)
     one true = tt
     one false = h
 
--- a number is one whatever its parts
-pub number_parts : (h : Head) (ts us : Sizes) → is_number (Built h ts) ≡ is_number (Built h us)
-number_parts (head.Scalar (sort.Int t)) ts us = refl
-number_parts (head.Scalar sort.Bool) ts us = refl
-number_parts head.Array ts us = refl
-number_parts head.Tuple ts us = refl
-number_parts (head.Record n) ts us = refl
-number_parts head.Fun ts us = refl
-number_parts (head.Rigid n k) ts us = refl
-number_parts (head.Abstract n d) ts us = refl
+-- a type that is i64
+abbrev pub is_i64_ty : Ty → Bool
+is_i64_ty (Made h none) = head_i64 h
+is_i64_ty t = false
 
-number_built : (h : Head) (ts : Sizes) (us : Tys) → is_number (Built h ts) ≡ number_ty (Made h us)
-number_built (head.Scalar (sort.Int t)) ts us = refl
-number_built (head.Scalar sort.Bool) ts us = refl
-number_built head.Array ts us = refl
-number_built head.Tuple ts us = refl
-number_built (head.Record n) ts us = refl
-number_built head.Fun ts us = refl
-number_built (head.Rigid n k) ts us = refl
-number_built (head.Abstract n d) ts us = refl
+head_is : (h : Head) → head_i64 h ≡ true → h ≡ head.Scalar (sort.Int int.I64)
+head_is (head.Scalar (sort.Int int.I64)) e = refl
+head_is (head.Scalar (sort.Int int.I8)) e = let z : false ≡ true = e in cc
+head_is (head.Scalar (sort.Int int.I16)) e = let z : false ≡ true = e in cc
+head_is (head.Scalar (sort.Int int.I32)) e = let z : false ≡ true = e in cc
+head_is (head.Scalar (sort.Int int.U8)) e = let z : false ≡ true = e in cc
+head_is (head.Scalar (sort.Int int.U16)) e = let z : false ≡ true = e in cc
+head_is (head.Scalar (sort.Int int.U32)) e = let z : false ≡ true = e in cc
+head_is (head.Scalar (sort.Int int.U64)) e = let z : false ≡ true = e in cc
+head_is (head.Scalar sort.Bool) e = let z : false ≡ true = e in cc
+head_is head.Array e = let z : false ≡ true = e in cc
+head_is head.Tuple e = let z : false ≡ true = e in cc
+head_is (head.Record n) e = let z : false ≡ true = e in cc
+head_is head.Fun e = let z : false ≡ true = e in cc
+head_is (head.Rigid n k) e = let z : false ≡ true = e in cc
+head_is (head.Abstract n d) e = let z : false ≡ true = e in cc
 
-pub number_typed : (t : Size) → Formed t → is_number t ≡ number_ty (erased t)
-unfolding Formed erased
+pub i64_ty_is : (t : Ty) → is_i64_ty t ≡ true → t ≡ i64_ty
+i64_ty_is (Made h none) e = ap (λ g. Made g none) (head_is h e)
+i64_ty_is (Made h (more t ts)) e = let z : false ≡ true = e in cc
+i64_ty_is (Var v) e = let z : false ≡ true = e in cc
+
+pub i64_is : (t : Size) → is_i64_size t ≡ true → t ≡ i64_size
+i64_is (Built h no_size) e = ap (λ g. Built g no_size) (head_is h e)
+i64_is (Built h (size_and t ts)) e = let z : false ≡ true = e in cc
+i64_is (Hole v) e = let z : false ≡ true = e in cc
+i64_is (Open n v u) e = let z : false ≡ true = e in cc
+i64_is (Level d t) e = let z : false ≡ true = e in cc
+i64_is (Fun k p r) e = let z : false ≡ true = e in cc
+
+-- it is a whole number
+pub i64_number : (t : Size) → is_i64_size t ≡ true → is_number t ≡ true
+i64_number t e = ap is_number (i64_is t e)
+
+pub number_typed : (t : Size) → Formed t → is_i64_size t ≡ is_i64_ty (erased t)
+unfolding Formed erased all_erased
 number_typed (Hole (Inferred v)) f = refl
 number_typed (Hole (Written b k)) f = refl
 number_typed (Open n v u) f = absurd f
 number_typed (Level d t) f = refl
-number_typed (Built h ts) f = number_built h ts (all_erased ts)
+number_typed (Built h no_size) f = refl
+number_typed (Built h (size_and t ts)) f = refl
 number_typed (Fun k p r) f = refl
 
-pub number_replaced : (g : ℕ → Dim → Dim) (t : Size) (j : ℕ) → is_number (replaced g j t) ≡ is_number t
-unfolding replaced
+pub number_replaced : (g : ℕ → Dim → Dim) (t : Size) (j : ℕ) → is_i64_size (replaced g j t) ≡ is_i64_size t
+unfolding replaced all_replaced
 number_replaced g (Hole v) j = refl
 number_replaced g (Open n v u) j = refl
 number_replaced g (Level d t) j = refl
-number_replaced g (Built h ts) j = number_parts h (all_replaced g j ts) ts
+number_replaced g (Built h no_size) j = refl
+number_replaced g (Built h (size_and t ts)) j = refl
 number_replaced g (Fun k p r) j = refl
 
 module _ (g : ℕ → Dim → Dim) (keeps : (Q : ℕ → Type 0) (m j : ℕ) (d : Dim) → m ≤ j → Of_positions Q m d → Of_positions Q m (g j d)) where

@@ -13,9 +13,9 @@ use Rattle.fut_sizes.specs.Functions.{stands_among, sizes_in, position_from, or_
 use Rattle.fut_sizes.specs.Rules.{Each_hole, Each_holes, Tells_size, Tells_type, Telling}
 use Rattle.fut_sizes.specs.Scopes.{i64_size, Scope, names}
 use Rattle.fut_sizes.specs.Sizing.{part_names}
-use Rattle.fut_sizes.specs.Scoping.{is_number, Context, with_positions, with_pattern, if_some}
+use Rattle.fut_sizes.specs.Scoping.{Context, with_positions, with_pattern, if_some}
 use Rattle.fut_sizes.specs.Suiting.{Each, Each_all, Scoped, Of_positions}
-use Rattle.sizes_meet_rules.specs.Known.{None_open, Is_const, Elsewhere}
+use Rattle.sizes_meet_rules.specs.Known.{is_i64_size, None_open, Is_const, Elsewhere}
 use Rattle.sizes_meet_rules.proofs.Settling.{Any_variable}
 use Rattle.sizes_meet_rules.specs.Plain.{Plain_pattern}
 use Rattle.sizes_meet_rules.proofs.Arrows.{Is_value, value_place, Headed, value_apart, chosen, chosen_here, frame, position, May_stand, standing_own, frame_value, frame_met}
@@ -122,7 +122,7 @@ module _ (N : Names) (types : Sub) (home : ℕ → ℕ) (K : Kinds) (places : Ki
       by_form (inr (b, e, f)) = absurd (let z : true ≡ false = sym (among b f) ∙ bare b e in cc)
 
   -- a parameter that is no number is no size of what follows
-  named_number : (r : FlatPattern) (x : Free) → Named_by N r own x → Is_value (value_name r) x → is_number own ≡ true
+  named_number : (r : FlatPattern) (x : Free) → Named_by N r own x → Is_value (value_name r) x → is_i64_size own ≡ true
   named_number (Bound_pattern y) x h v = h.1
   named_number Wild_pattern x h v = absurd h
   named_number (Tuple_pattern ps) x h v = absurd v
@@ -138,7 +138,7 @@ module _ (N : Names) (types : Sub) (home : ℕ → ℕ) (K : Kinds) (places : Ki
   own_no_value x (Some b) apart o v = let z : false ≡ true = sym (apart b refl) ∙ ap (is_own bs q) (sym v) ∙ o in cc
   own_no_value x None apart o v = v
 
-  pub no_value : (x : Free) → is_number own ≡ false → Entered_in x → Is_value (value_name p) x → ⊥
+  pub no_value : (x : Free) → is_i64_size own ≡ false → Entered_in x → Is_value (value_name p) x → ⊥
   no_value x e (inl i) v = known_no_value x (value_name p) (value_home types home K places p q plain) (inl i) v
   no_value x e (inr (inl s)) v = by_own (standing_own N types home K places lo at hi q p plain In E l2 l3 bs own own_is own_stands head x s)
     where

@@ -458,7 +458,7 @@ module _ (N : Names) (types : Sub) (home : ℕ → ℕ) (K : Kinds) (places : Ki
       Function_in d = Behind_function N types home K places In Vars scope x F.chosen F.from F.to lo (1 + lo) mid at hi d
 
       abbrev inner : Scope
-      inner = with_function N types K places Function_in Vars home x F.chosen F.from F.to scope
+      inner = with_function N types K places Function_in Vars home x (Fun F.chosen F.from F.to) scope
 
       inner_is : R.inner ≡ inner
       inner_is = sym (same_ok R.scope_is) ∙ ap (λ w. with_general N types (Bound_pattern x) w scope) F.is_function
@@ -476,7 +476,7 @@ module _ (N : Names) (types : Sub) (home : ℕ → ℕ) (K : Kinds) (places : Ki
       wider_known b u a = known_wider N types K places Function_in Vars home In Vars (λ y i. inl i) (λ y i. i) scope b u (known b u a)
 
       body_known : Known_names Function_in Vars home inner K types (with_uses x.0 uses T)
-      body_known = known_general N types K places Function_in Vars home x F.chosen F.from F.to scope T uses says closed (sized_function.typed ∙ sym t1 ∙ ap types (sym plain)) arrow wider_known
+      body_known = known_general N types K places Function_in Vars home x (Fun F.chosen F.from F.to) scope T uses says closed (sized_function.typed ∙ sym t1 ∙ ap types (sym plain)) (λ w a. inl (arrow w a)) (λ z. absurd (let y : false ≡ true = z in cc)) wider_known
 
       body_at : at ≡ 1 + lo + 1 + numbers v
       body_at = sym m2 ∙ ap (λ n. n + numbers v) (sym m1)

@@ -21,7 +21,7 @@ use Rattle.fut_sizes.specs.Functions.{is_slot}
 use Rattle.fut_sizes.specs.Matching.{Found, nothing_found, counted}
 use Rattle.fut_sizes.specs.Rules.{Each_hole, Each_holes, Away, taken_by, Pattern_takes, Loops, counter, Sized, Turns_sized}
 use Rattle.fut_sizes.specs.Scopes.{Scope, with_name, names, Taken, as_taken, bound_at, bound_by}
-use Rattle.fut_sizes.specs.Scoping.{Context, with_names, with_pattern, with_size_names}
+use Rattle.fut_sizes.specs.Scoping.{Context, with_name as with_known_name, with_pattern, with_size_names}
 use Rattle.fut_sizes.specs.Sizing.{finished, bind_ids, row_of, lacking, differing, turns_from, pattern_noted, sized, turns_sized, condition_sized}
 use Rattle.fut_sizes.specs.Steps.{State, Done, Step, give, ask, and_then, at_node}
 use Rattle.fut_sizes.specs.Suiting.{Each, Each_all, Scoped, Data}
@@ -33,7 +33,7 @@ use Rattle.sizes_meet_rules.proofs.Taking_sizes.{what}
 use Rattle.sizes_meet_rules.proofs.Forming.{data_of}
 use Rattle.sizes_meet_rules.proofs.Showing.{numbers_some, Law_of, alone, bound_ran}
 use Rattle.sizes_meet_rules.proofs.Meeting.{then_ok, asked, same_ok, at_itself, at_another, With_met, met_wider, met_settled, met_outside, says_more, says_settled, In_nodes, elsewhere_narrower, inside_wider, away_of, Meets}
-use Rattle.sizes_meet_rules.proofs.Naming.{Named_by, named_no_slot, No_name_of, no_name_by_home, known_with, judged_all, judged_names}
+use Rattle.sizes_meet_rules.proofs.Naming.{Named_by, named_no_slot, No_name_of, no_name_by_home, known_with, judged_all, judged_name}
 use Rattle.sizes_meet_rules.proofs.Operating.{Level_of, level_of}
 use Rattle.sizes_meet_rules.proofs.Replacing.{hole_as, renamed_as}
 use Rattle.sizes_meet_rules.proofs.Settling.{Is_settled, Any_variable, noted}
@@ -258,8 +258,8 @@ module _ (N : Names) (types : Sub) (home : ℕ → ℕ) (K : Kinds) (places : Ki
         B : Meets N types home (Counted_in i ran.0.last.result) Vars (bound_scope N (Bound_pattern i) ran.0.last.result scope1) body at hi R.condition.state u.result u.state
         B = of_body (Counted_in i ran.0.last.result) (bound_scope N (Bound_pattern i) ran.0.last.result scope1) (typed_with the_one (Bound_pattern i) from T1) known2 E2 pb tb R.condition.state R.part u (ap (λ w. sized N types body [] at w R.condition.state) inner ∙ R.part_is) R.body_is
 
-        judged2 : (s : ℕ → Size) (G1 : Context) → Judged In1 Vars scope1 G1 → s from ≡ ran.0.last.result → Judged (Counted_in i ran.0.last.result) Vars (bound_scope N (Bound_pattern i) ran.0.last.result scope1) (with_names s (Bound_pattern i) from G1)
-        judged2 s G1 J1 e = judged_all (Counted_in i ran.0.last.result) Vars (bound_scope N (Bound_pattern i) ran.0.last.result scope1) (with_names s (Bound_pattern i) from G1) (judged_names N types K places (Counted_in i ran.0.last.result) Vars home s [] (Bound_pattern i) from at_home ran.0.last.result tt e scope1 G1 named_before J1.none_open (hole_as Vars Any_variable (λ v i. tt) ran.0.last.result C.says.variables) split J1.finds_types)
+        judged2 : (s : ℕ → Size) (G1 : Context) → Judged In1 Vars scope1 G1 → s from ≡ ran.0.last.result → Judged (Counted_in i ran.0.last.result) Vars (bound_scope N (Bound_pattern i) ran.0.last.result scope1) (with_known_name i.0 (s from) G1)
+        judged2 s G1 J1 e = judged_all (Counted_in i ran.0.last.result) Vars (bound_scope N (Bound_pattern i) ran.0.last.result scope1) (with_known_name i.0 (s from) G1) (judged_name N types K places (Counted_in i ran.0.last.result) Vars home s [] i from ran.0.last.result e scope1 G1 named_before J1.none_open (hole_as Vars Any_variable (λ v i. tt) ran.0.last.result C.says.variables) split J1.finds_types)
           where
             named_before : (b : ℕ) (g : Bool) (u : Size) → false ≡ false → is_among (names (Bound_pattern i)) b ≡ false → scope1 b ≡ Some (record { size = u; is_general = g }) → cond g (G1.schemes b) (G1.sizes b) ≡ Some u
             named_before b true u k n z = J1.schemes b u z
@@ -282,7 +282,7 @@ module _ (N : Names) (types : Sub) (home : ℕ → ℕ) (K : Kinds) (places : Ki
             let count : (n : ℕ) → 1 + from ≤ n → n < at → s n ≡ ran.0.last.state.nodes n = λ n x y. first n (omega (arith, x)) y ∙ at_another from n ran.0.last.result ran.0.last.state.nodes (λ z. omega (arith, z, x)) in
             let some = numbers_some m in (
               (C.rules s G J count, here ∙ sym (count (1 + from) (omega arith) (omega (arith, m3, some)) ∙ C.here)),
-              B.rules s (with_names s (Bound_pattern i) from G1) (judged2 s G1 J1 here) (λ n x y. a n (omega (arith, x, j)) y),
+              B.rules s (with_known_name i.0 (s from) G1) (judged2 s G1 J1 here) (λ n x y. a n (omega (arith, x, j)) y),
             )
 
     -- the elements of an array

@@ -1,14 +1,19 @@
 -- What is proved of each term: what its sized type says, which nodes are noted, and that they meet the rules.
-use Rattle.std.proofs.Common.{◌≡◌, ◌⊎◌, ℕ, zero, suc, ◌<◌, ◌≤◌, List, ◌∷◌, Bool, false, cond, Option, None, Ok, Err, refl, sym, ap, ◌∙◌, subst, arith, inl, inr, eq-eqb}
+use Rattle.std.proofs.Common.{◌≡◌, ◌⊎◌, ℕ, zero, suc, ◌+◌, ◌<◌, ◌≤◌, List, ◌∷◌, Bool, false, cond, Option, Some, None, Ok, Err, refl, sym, ap, ◌∙◌, subst, arith, inl, inr, eq-eqb}
 use Rattle.std.proofs.lemmas.Bool.{ne_eqb}
+use Rattle.fut_scalar.specs.declared.place.BindId.{BindId}
+use Rattle.fut_flat.specs.declared.prim.Ref.{Ref}
+use Rattle.fut_flat.specs.Numbers.{pattern_numbers, all_pattern_numbers}
+use Rattle.fut_flat.specs.Terms.{Patterns, no_pattern, pattern_and, Lambda}
 use Rattle.fut_flat.specs.Erased.{FlatTerm}
 use Rattle.fut_types.specs.Types.{Ty, fun_ty, Sub}
 use Rattle.fut_typing.specs.Names.{Names}
-use Rattle.sized_types.specs.Sizes.{Free, Const, Name, Own, Unknown, Slot, Dim, At, Bound, Variable, Inferred, Size, Hole, erased}
+use Rattle.fut_typing.specs.Patterns.{pattern_types, arrows}
+use Rattle.sized_types.specs.Sizes.{Free, Const, Name, Own, Unknown, Slot, Dim, At, Bound, Variable, Inferred, Size, Hole, Fun, erased}
 use Rattle.fut_sizes.specs.Agreeing.{Refusal, Answer, then_do}
 use Rattle.fut_sizes.specs.Applications.{Want, Met, Argument, Part, Applied, Waiting, whole}
 use Rattle.fut_sizes.specs.Functions.{is_slot}
-use Rattle.fut_sizes.specs.Matching.{Found, nothing_found}
+use Rattle.fut_sizes.specs.Matching.{Found, nothing_found, none_opened, function_way, meet}
 use Rattle.fut_sizes.specs.Rules.{Inside, Outside, Away, Sized}
 use Rattle.fut_sizes.specs.Scopes.{Scope}
 use Rattle.fut_sizes.specs.Scoping.{Context}
@@ -16,6 +21,8 @@ use Rattle.fut_sizes.specs.Sizing.{finished}
 use Rattle.fut_sizes.specs.Steps.{State, Done, Step, ask, at_node}
 use Rattle.fut_sizes.specs.Suiting.{Each, Scoped}
 use Rattle.sizes_meet_rules.specs.Known.{Says, Is_const, Judged, Elsewhere}
+use Rattle.sizes_meet_rules.specs.Plain.{Flat_type, Lambda_flat}
+use Rattle.sizes_meet_rules.proofs.Flat_types.{flat}
 use Rattle.sizes_meet_rules.proofs.Replacing.{each_as, hole_as}
 use Rattle.sizes_meet_rules.proofs.Settling.{Is_settled, Any_variable, Settled, noted, whole_finished}
 
@@ -104,6 +111,42 @@ says_more In In' Vars t w h = record { sizes = each_scoped In In' w t 0 h.sizes;
 pub says_settled : (In : Free → Type 0) (Vars : Variable → Type 0) (t : Size) → ((d : Free) → In d → is_slot d ≡ false) → Says In Vars t → Settled t
 says_settled In Vars t n h = (each_scoped In Is_settled n t 0 h.sizes, hole_as Vars Any_variable (λ v o. tt) t h.variables)
 
+-- ---- a lambda that is wanted
+
+-- it is sized as by itself, and then matched
+pub record As_alone (waiting : Option Want → Found → Step Met) (lo : ℕ) (w : Want) (σ : Found) (before : State) (m : Done Met) : Type 0 where
+  pub alone : Done Met
+  pub ran : waiting None nothing_found before ≡ Ok alone
+  pub size : alone.result.size ≡ m.result.size
+  pub state : alone.state ≡ m.state
+  pub met : meet w.node (function_way w.is_regular) lo none_opened w.size none_opened m.result.size σ ≡ Ok m.result.found
+
+-- a function of these parameters chooses no sizes
+abbrev pub Chooses_none : Patterns Ref BindId → Size → Type 0
+Chooses_none no_pattern t = Unit {0}
+Chooses_none (pattern_and p ps) (Fun zero q r) = Chooses_none ps r
+Chooses_none ps t = ⊥
+
+abbrev pub Lambda_chooses_none : FlatTerm → Size → Type 0
+Lambda_chooses_none (Lambda ps e) t = Chooses_none ps t
+Lambda_chooses_none e t = ⊥
+
+module _ (types : Sub) where
+  -- a function type of these parameters, in which are no arrays
+  abbrev pub Flat_wanted : Patterns Ref BindId → ℕ → Size → Type 0
+  Flat_wanted no_pattern q t = Unit {0}
+  Flat_wanted (pattern_and p ps) q (Fun k t r) = (Flat_type (types q) × (t ≡ flat (types q))) × Flat_wanted ps (q + pattern_numbers p) r
+  Flat_wanted ps q t = ⊥
+
+  -- the type of a lambda is that of its parameters and its body
+  abbrev pub Lambda_typed : FlatTerm → ℕ → Type 0
+  Lambda_typed (Lambda ps e) lo = types lo ≡ arrows (pattern_types types ps (1 + lo)) (types (1 + lo + all_pattern_numbers ps))
+  Lambda_typed e lo = Unit {0}
+
+  abbrev pub Lambda_wanted : FlatTerm → ℕ → Size → Type 0
+  Lambda_wanted (Lambda ps e) lo t = Flat_wanted ps (1 + lo) t
+  Lambda_wanted e lo t = ⊥
+
 module _ (N : Names) (types : Sub) (home : ℕ → ℕ) where
   abbrev pub In_nodes : ℕ → ℕ → Free → Type 0
   In_nodes lo hi d = Inside N types (λ n. Hole (Inferred n)) home lo hi d
@@ -163,8 +206,11 @@ module _ (N : Names) (types : Sub) (home : ℕ → ℕ) where
       pub is_waiting : part ≡ Waiting waiting
       pub unchanged : after ≡ st
       pub of_function : (p : Ty) × ((r : Ty) × (types lo ≡ fun_ty p r))
+      pub typed_as : Lambda_typed types e lo
       pub known_sizes : (before : State) (m : Done Met) → waiting None nothing_found before ≡ Ok m → Each (Scoped (λ d. In d ⊎ Is_const d)) 0 m.result.size
       pub by_itself : (before : State) (m : Done Met) → waiting None nothing_found before ≡ Ok m → Meets e lo hi before m.result.size m.state
+      pub as_wanted : (w : Want) (σ : Found) (before : State) (m : Done Met) → Lambda_wanted types e lo w.size → waiting (Some w) σ before ≡ Ok m → As_alone waiting lo w σ before m
+      pub chooses_none : (before : State) (m : Done Met) → waiting None nothing_found before ≡ Ok m → Lambda_flat types e lo → Lambda_chooses_none e m.result.size
 
     -- a function whose arguments wait to be matched
     pub record Is_applied (e : FlatTerm) (lo hi : ℕ) (st : State) (part : Part) (after : State) : Type 0 where

@@ -1,4 +1,5 @@
 -- What is known of the names in scope where a pattern took a value.
+use Rattle.sizes_meet_rules.proofs.Forming.{i64_number}
 use Rattle.std.proofs.Common.{◌≡◌, ◌⊎◌, ℕ, zero, suc, ◌+◌, ◌≤◌, List, [], ◌∷◌, ◌++◌, Bool, true, false, ◌||◌, cond, nat_eq, Option, Some, None, refl, sym, ap, ◌∙◌, subst, arith, inl, inr, eq-eqb}
 use Rattle.std.proofs.lemmas.Bool.{ne_eqb, eqb-false}
 use native.Mathlib.Decide.{ℕ_discrete}
@@ -22,9 +23,9 @@ use Rattle.fut_sizes.specs.Agreeing.{is_among}
 use Rattle.fut_sizes.specs.Functions.{is_slot, value_name}
 use Rattle.fut_sizes.specs.Rules.{Each_hole, Each_holes}
 use Rattle.fut_sizes.specs.Scopes.{Known, Scope, with_name, names, all_names}
-use Rattle.fut_sizes.specs.Scoping.{Context, is_number, with_entered, with_names, with_all_names, with_pattern}
+use Rattle.fut_sizes.specs.Scoping.{Context, is_number, with_name as with_known_name, with_entered, with_pattern, with_all_patterns}
 use Rattle.fut_sizes.specs.Suiting.{Each, Each_all, Scoped, Data, All_data}
-use Rattle.sizes_meet_rules.specs.Known.{Formed, All_formed, Says, Known_name, Known_names, None_open, Is_const, Judged}
+use Rattle.sizes_meet_rules.specs.Known.{is_i64_size, Formed, All_formed, Says, Known_name, Known_names, None_open, Is_const, Judged}
 use Rattle.sizes_meet_rules.specs.Plain.{Plain_pattern, Plain_parts}
 use Rattle.sizes_meet_rules.proofs.Replacing.{same_free, hole_as}
 use Rattle.sizes_meet_rules.proofs.Meeting.{each_scoped}
@@ -38,7 +39,7 @@ use Rattle.sizes_meet_rules.proofs.Taking.{parts_same, Of_part, If_part, part_bo
 -- a name of the pattern whose part is a number may be a size
 abbrev mutual
   pub Named_by : Names → FlatPattern → Size → Free → Type 0
-  Named_by N (Bound_pattern x) t d = (d ≡ Name x.0) × (is_number t ≡ true)
+  Named_by N (Bound_pattern x) t d = (d ≡ Name x.0) × (is_i64_size t ≡ true)
   Named_by N (Tuple_pattern ps) (Built h ts) d = Part_named N ps ts d
   Named_by N (Record_pattern fs ps) t d = Fields_named N fs ps t d
   Named_by N (Typed_pattern p e) t d = Named_by N p t d
@@ -179,16 +180,20 @@ none_among (x ∷ xs) ys b e f = by_name (nat_eq b x) (none_among xs ys b) e
     by_name true go e = e
     by_name false go e = go e f
 
--- a name of type i64 is not general
+-- a name of type i64 is a number
 pub no_function : (p r : Ty) → i64_ty ≡ fun_ty p r → ⊥
 no_function p r e = let z : Made (head.Scalar (scalar.Int int.I64)) none ≡ Made head.Fun (more p (more r none)) = e in cc
 
-pub number_name : (In : Free → Type 0) (Vars : Variable → Type 0) (types : Sub) (home : ℕ → ℕ) (scope : Scope) (b : ℕ) (k : Known_name In Vars types home scope b i64_ty) → (k.is_general ≡ false) × (erased k.size ≡ i64_ty)
+pub number_name : (In : Free → Type 0) (Vars : Variable → Type 0) (types : Sub) (home : ℕ → ℕ) (scope : Scope) (b : ℕ) (k : Known_name In Vars types home scope b i64_ty) → erased k.size ≡ i64_ty
 number_name In Vars types home scope b k = by_form k.is_general refl
   where
-    by_form : (c : Bool) → k.is_general ≡ c → (k.is_general ≡ false) × (erased k.size ≡ i64_ty)
-    by_form true e = let f = k.function e in absurd (no_function f.0 f.1 f.2)
-    by_form false e = (e, k.typed (λ g. absurd (let z : true ≡ false = sym g ∙ e in cc)))
+    by_kind : ((p : Ty) × (r : Ty) × (i64_ty ≡ fun_ty p r)) ⊎ (types (home b) ≡ i64_ty) → erased k.size ≡ i64_ty
+    by_kind (inl f) = absurd (no_function f.0 f.1 f.2)
+    by_kind (inr h) = k.typed (λ g. sym h)
+
+    by_form : (c : Bool) → k.is_general ≡ c → erased k.size ≡ i64_ty
+    by_form true e = by_kind (k.function e)
+    by_form false e = k.typed (λ g. absurd (let z : true ≡ false = sym g ∙ e in cc))
 
 module _ (types : Sub) (home : ℕ → ℕ) (K : Kinds) (places : Kind) where
   -- the name that it is, and where that is at home
@@ -270,7 +275,7 @@ module _ (N : Names) (types : Sub) (K : Kinds) (places : Kind) (In' : Free → T
     pub still_known : (scope inner : Scope) (b : ℕ) (u : Ty) → inner b ≡ scope b → Known_name In' Vars' types home scope b u → Known_name In' Vars' types home inner b u
     still_known scope inner b u e k = record { size = k.size; is_general = k.is_general; known = e ∙ k.known; says = k.says; closed = k.closed; function = k.function; typed = k.typed; number = k.number }
 
-    known_name : (x : BindId) (q : ℕ) (t : Size) (scope : Scope) (T : TypeScope) → Says In' Vars' t → erased t ≡ types q → (is_number t ≡ true → In' (Name x.0)) → Known_names In' Vars' home scope K types T → Known_names In' Vars' home (with_name x.0 t scope) K types (typed_with the_one (Bound_pattern x) q T)
+    known_name : (x : BindId) (q : ℕ) (t : Size) (scope : Scope) (T : TypeScope) → Says In' Vars' t → erased t ≡ types q → (is_i64_size t ≡ true → In' (Name x.0)) → Known_names In' Vars' home scope K types T → Known_names In' Vars' home (with_name x.0 t scope) K types (typed_with the_one (Bound_pattern x) q T)
     known_name x q t scope T h e i k b u = elim (ℕ_discrete b x.0) as (λ d. (elim d as (λ d. Uses) [ yes e ↦ the_one q | no ne ↦ T.uses b ]) K types u → Known_name In' Vars' types home (with_name x.0 t scope) b u) [
       | yes y ↦ λ a. record {
         size = t;
@@ -327,6 +332,30 @@ module _ (N : Names) (types : Sub) (K : Kinds) (places : Kind) (In' : Free → T
 
     -- ---- and the rules know the same
 
+    -- what a value shows that is entered, and what was found before
+    standing_entered : (t : Size) (G : Context) (d : Free) → stands t d ≡ true → (with_entered t G).finds d ≡ true
+    standing_entered t G d y = or_first (stands t d) (stands_told t d || G.finds d) y
+
+    still_entered : (t : Size) (G : Context) (d : Free) → G.finds d ≡ true → (with_entered t G).finds d ≡ true
+    still_entered t G d y = or_later (stands t d) (stands_told t d || G.finds d) (or_later (stands_told t d) (G.finds d) y)
+
+    holes_entered : (t : Size) (G : Context) (v : Variable) → has_hole t v ≡ true → (with_entered t G).finds_types v ≡ true
+    holes_entered t G v y = or_first (has_hole t v) (has_told t v || G.finds_types v) y
+
+    types_entered : (t : Size) (G : Context) (v : Variable) → G.finds_types v ≡ true → (with_entered t G).finds_types v ≡ true
+    types_entered t G v y = or_later (has_hole t v) (has_told t v || G.finds_types v) (or_later (has_told t v) (G.finds_types v) y)
+
+    -- a name that is a number, and other sizes
+    name_found : (x : BindId) (t : Size) (G : Context) (d : Free) → d ≡ Name x.0 → is_number t ≡ true → (with_known_name x.0 t G).finds d ≡ true
+    name_found x t G d e y = ap (λ z. (with_known_name x.0 t G).finds z) e ∙ ap (λ c. cond c (is_number t) (G.finds (Name x.0))) (eq-eqb x.0 x.0 refl) ∙ y
+
+    name_still : (x : BindId) (t : Size) (G : Context) (d : Free) → No_name_of (x.0 ∷ []) d → G.finds d ≡ true → (with_known_name x.0 t G).finds d ≡ true
+    name_still x t G (Name b) a y = ap (λ c. cond c (is_number t) (G.finds (Name b))) (ne_eqb x.0 b (λ z. let w : true ≡ false = sym (ap (λ c. cond c true false) (eq-eqb b x.0 (sym z))) ∙ a b refl in cc)) ∙ y
+    name_still x t G (Const c) a y = y
+    name_still x t G (Own n i) a y = y
+    name_still x t G (Unknown n i) a y = y
+    name_still x t G (Slot i) a y = y
+
     module _ (s : ℕ → Size) where
       module _ (b : ℕ) (g : Bool) (u : Size) where
         abbrev Gives : Option Known → Type 0
@@ -341,7 +370,7 @@ module _ (N : Names) (types : Sub) (K : Kinds) (places : Kind) (In' : Free → T
         field_sizes None P Q bound scope X f h k z = absurd h
 
         mutual
-          sizes_with : (p : FlatPattern) (q : ℕ) (t : Size) → Has_parts N p t → Nodes N p q t s → (scope : Scope) (G : Context) → (is_among (names p) b ≡ false → Gives (scope b) → named_in g G ≡ Some u) → Gives (bound_scope N p t scope b) → named_in g (with_names s p q G) ≡ Some u
+          sizes_with : (p : FlatPattern) (q : ℕ) (t : Size) → Has_parts N p t → Nodes N p q t s → (scope : Scope) (G : Context) → (is_among (names p) b ≡ false → Gives (scope b) → named_in g G ≡ Some u) → Gives (bound_scope N p t scope b) → named_in g (with_pattern s p q G) ≡ Some u
           sizes_with (Bound_pattern x) q t c n scope G hyp z = by_name (nat_eq x.0 b) refl z
             where
               here : (k : Bool) → ◌≡◌ {A = Option Known} (Some (record { size = t; is_general = false })) (Some (record { size = u; is_general = k })) → cond k None (Some (s q)) ≡ Some u
@@ -354,83 +383,94 @@ module _ (N : Names) (types : Sub) (K : Kinds) (places : Kind) (In' : Free → T
               two false true = refl
               two false false = refl
 
-              by_name : (c : Bool) → nat_eq x.0 b ≡ c → ◌≡◌ {A = Option Known} (cond c (Some (record { size = t; is_general = false })) (scope b)) (Some (record { size = u; is_general = g })) → named_in g (with_names s (Bound_pattern x) q G) ≡ Some u
+              by_name : (c : Bool) → nat_eq x.0 b ≡ c → ◌≡◌ {A = Option Known} (cond c (Some (record { size = t; is_general = false })) (scope b)) (Some (record { size = u; is_general = g })) → named_in g (with_pattern s (Bound_pattern x) q G) ≡ Some u
               by_name true f w = two (nat_eq x.0 b) g ∙ ap (λ c. cond c (cond g None (Some (s q))) (named_in g G)) f ∙ here g w
               by_name false f w = two (nat_eq x.0 b) g ∙ ap (λ c. cond c (cond g None (Some (s q))) (named_in g G)) f ∙ hyp (ap (λ c. cond c true false) (ne_eqb b x.0 (λ y. eqb-false x.0 b f (sym y)))) w
           sizes_with Wild_pattern q t c n scope G hyp z = hyp refl z
-          sizes_with (Tuple_pattern ps) q (Built g ts) c n scope G hyp z = parts_sizes ps (1 + q) ts c.1 n.1 scope G hyp z
+          sizes_with (Tuple_pattern ps) q (Built g ts) c n scope G hyp z = parts_sizes ps (1 + q) ts c.1 n.1 scope (with_entered (s q) G) hyp z
           sizes_with (Tuple_pattern ps) q (Hole v) c n scope G hyp z = absurd c
           sizes_with (Tuple_pattern ps) q (Open m v w) c n scope G hyp z = absurd c
           sizes_with (Tuple_pattern ps) q (Level d t) c n scope G hyp z = absurd c
           sizes_with (Tuple_pattern ps) q (Fun k p r) c n scope G hyp z = absurd c
-          sizes_with (Record_pattern fs ps) q t c n scope G hyp z = fields_sizes fs ps (1 + q) t c n.1 scope G hyp z
+          sizes_with (Record_pattern fs ps) q t c n scope G hyp z = fields_sizes fs ps (1 + q) t c n.1 scope (with_entered (s q) G) hyp z
           sizes_with (Typed_pattern p e) q t c n scope G hyp z = sizes_with p q t c.1 n scope G hyp z
 
-          parts_sizes : (ps : Patterns Ref BindId) (q : ℕ) (ts : Sizes) → All_have_parts N ps ts → All_nodes N ps q ts s → (scope : Scope) (G : Context) → (is_among (all_names ps) b ≡ false → Gives (scope b) → named_in g G ≡ Some u) → Gives (parts_bound N ps ts scope b) → named_in g (with_all_names s ps q G) ≡ Some u
+          parts_sizes : (ps : Patterns Ref BindId) (q : ℕ) (ts : Sizes) → All_have_parts N ps ts → All_nodes N ps q ts s → (scope : Scope) (G : Context) → (is_among (all_names ps) b ≡ false → Gives (scope b) → named_in g G ≡ Some u) → Gives (parts_bound N ps ts scope b) → named_in g (with_all_patterns s ps q G) ≡ Some u
           parts_sizes no_pattern q no_size c n scope G hyp z = hyp refl z
           parts_sizes no_pattern q (size_and t ts) c n scope G hyp z = absurd c
           parts_sizes (pattern_and p ps) q no_size c n scope G hyp z = absurd c
-          parts_sizes (pattern_and p ps) q (size_and t ts) c n scope G hyp z = parts_sizes ps (q + pattern_numbers p) ts c.1 n.1 (bound_scope N p t scope) (with_names s p q G)
+          parts_sizes (pattern_and p ps) q (size_and t ts) c n scope G hyp z = parts_sizes ps (q + pattern_numbers p) ts c.1 n.1 (bound_scope N p t scope) (with_pattern s p q G)
               (λ f y. sizes_with p q t c.0 n.0 scope G (λ e w. hyp (none_among (names p) (all_names ps) b e f) w) y) z
 
-          fields_sizes : (ls : List Text) (ps : Patterns Ref BindId) (q : ℕ) (t : Size) → Fields_have N ls ps t → Fields_nodes N ls ps q t s → (scope : Scope) (G : Context) → (is_among (all_names ps) b ≡ false → Gives (scope b) → named_in g G ≡ Some u) → Gives (fields_bound N ls ps t scope b) → named_in g (with_all_names s ps q G) ≡ Some u
+          fields_sizes : (ls : List Text) (ps : Patterns Ref BindId) (q : ℕ) (t : Size) → Fields_have N ls ps t → Fields_nodes N ls ps q t s → (scope : Scope) (G : Context) → (is_among (all_names ps) b ≡ false → Gives (scope b) → named_in g G ≡ Some u) → Gives (fields_bound N ls ps t scope b) → named_in g (with_all_patterns s ps q G) ≡ Some u
           fields_sizes [] no_pattern q t c n scope G hyp z = hyp refl z
           fields_sizes [] (pattern_and p ps) q t c n scope G hyp z = absurd c
           fields_sizes (l ∷ ls) no_pattern q t c n scope G hyp z = absurd c
-          fields_sizes (l ∷ ls) (pattern_and p ps) q t c n scope G hyp z = fields_sizes ls ps (q + pattern_numbers p) t c.1 n.1 (field_bound N p (part_of N l t) scope) (with_names s p q G)
-              (λ f y. field_sizes (part_of N l t) (λ u. Has_parts N p u) (λ u. Nodes N p q u s) (λ v inner. bound_scope N p v inner) scope (named_in g (with_names s p q G) ≡ Some u) (λ v g m w. sizes_with p q v g m scope G (λ e r. hyp (none_among (names p) (all_names ps) b e f) r) w) c.0 n.0 y) z
+          fields_sizes (l ∷ ls) (pattern_and p ps) q t c n scope G hyp z = fields_sizes ls ps (q + pattern_numbers p) t c.1 n.1 (field_bound N p (part_of N l t) scope) (with_pattern s p q G)
+              (λ f y. field_sizes (part_of N l t) (λ u. Has_parts N p u) (λ u. Nodes N p q u s) (λ v inner. bound_scope N p v inner) scope (named_in g (with_pattern s p q G) ≡ Some u) (λ v g m w. sizes_with p q v g m scope G (λ e r. hyp (none_among (names p) (all_names ps) b e f) r) w) c.0 n.0 y) z
 
       mutual
-        pub found_still : (p : FlatPattern) (q : ℕ) (G : Context) (d : Free) → No_name_of (names p) d → G.finds d ≡ true → (with_names s p q G).finds d ≡ true
-        found_still (Bound_pattern x) q G (Name b) a y = ap (λ c. cond c (is_number (s q)) (G.finds (Name b))) (ne_eqb x.0 b (λ z. let w : true ≡ false = sym (ap (λ c. cond c true false) (eq-eqb b x.0 (sym z))) ∙ a b refl in cc)) ∙ y
-        found_still (Bound_pattern x) q G (Const c) a y = y
-        found_still (Bound_pattern x) q G (Own n i) a y = y
-        found_still (Bound_pattern x) q G (Unknown n i) a y = y
-        found_still (Bound_pattern x) q G (Slot i) a y = y
-        found_still Wild_pattern q G d a y = y
-        found_still (Tuple_pattern ps) q G d a y = parts_still ps (1 + q) G d a y
-        found_still (Record_pattern fs ps) q G d a y = parts_still ps (1 + q) G d a y
+        pub found_still : (p : FlatPattern) (q : ℕ) (G : Context) (d : Free) → No_name_of (names p) d → G.finds d ≡ true → (with_pattern s p q G).finds d ≡ true
+        found_still (Bound_pattern x) q G d a y = name_still x (s q) (with_entered (s q) G) d a (still_entered (s q) G d y)
+        found_still Wild_pattern q G d a y = still_entered (s q) G d y
+        found_still (Tuple_pattern ps) q G d a y = parts_still ps (1 + q) (with_entered (s q) G) d a (still_entered (s q) G d y)
+        found_still (Record_pattern fs ps) q G d a y = parts_still ps (1 + q) (with_entered (s q) G) d a (still_entered (s q) G d y)
         found_still (Typed_pattern p e) q G d a y = found_still p q G d a y
 
-        parts_still : (ps : Patterns Ref BindId) (q : ℕ) (G : Context) (d : Free) → No_name_of (all_names ps) d → G.finds d ≡ true → (with_all_names s ps q G).finds d ≡ true
+        parts_still : (ps : Patterns Ref BindId) (q : ℕ) (G : Context) (d : Free) → No_name_of (all_names ps) d → G.finds d ≡ true → (with_all_patterns s ps q G).finds d ≡ true
         parts_still no_pattern q G d a y = y
-        parts_still (pattern_and p ps) q G d a y = parts_still ps (q + pattern_numbers p) (with_names s p q G) d (λ b z. later_not (names p) (all_names ps) b (a b z)) (found_still p q G d (λ b z. first_not (names p) (all_names ps) b (a b z)) y)
+        parts_still (pattern_and p ps) q G d a y = parts_still ps (q + pattern_numbers p) (with_pattern s p q G) d (λ b z. later_not (names p) (all_names ps) b (a b z)) (found_still p q G d (λ b z. first_not (names p) (all_names ps) b (a b z)) y)
 
       mutual
-        found_named : (p : FlatPattern) (q : ℕ) → Plain_pattern types home K places p q → (t : Size) → Nodes N p q t s → (G : Context) (d : Free) → Named_by N p t d → (with_names s p q G).finds d ≡ true
-        found_named (Bound_pattern x) q h t n G d y = ap (λ z. (with_names s (Bound_pattern x) q G).finds z) y.0 ∙ ap (λ c. cond c (is_number (s q)) (G.finds (Name x.0))) (eq-eqb x.0 x.0 refl) ∙ ap is_number n ∙ y.1
+        found_named : (p : FlatPattern) (q : ℕ) → Plain_pattern types home K places p q → (t : Size) → Nodes N p q t s → (G : Context) (d : Free) → Named_by N p t d → (with_pattern s p q G).finds d ≡ true
+        found_named (Bound_pattern x) q h t n G d y = name_found x (s q) (with_entered (s q) G) d y.0 (i64_number (s q) (ap is_i64_size n ∙ y.1))
         found_named Wild_pattern q h t n G d y = absurd y
-        found_named (Tuple_pattern ps) q h (Built g ts) n G d y = part_found ps (1 + q) h ts n.1 G d y
+        found_named (Tuple_pattern ps) q h (Built g ts) n G d y = part_found ps (1 + q) h ts n.1 (with_entered (s q) G) d y
         found_named (Tuple_pattern ps) q h (Hole v) n G d y = absurd y
         found_named (Tuple_pattern ps) q h (Open m v u) n G d y = absurd y
         found_named (Tuple_pattern ps) q h (Level x t) n G d y = absurd y
         found_named (Tuple_pattern ps) q h (Fun k p r) n G d y = absurd y
-        found_named (Record_pattern fs ps) q h t n G d y = fields_found fs ps (1 + q) h t n.1 G d y
+        found_named (Record_pattern fs ps) q h t n G d y = fields_found fs ps (1 + q) h t n.1 (with_entered (s q) G) d y
         found_named (Typed_pattern p e) q h t n G d y = found_named p q h.1 t n G d y
 
-        part_found : (ps : Patterns Ref BindId) (q : ℕ) → Plain_parts types home K places ps q → (ts : Sizes) → All_nodes N ps q ts s → (G : Context) (d : Free) → Part_named N ps ts d → (with_all_names s ps q G).finds d ≡ true
+        part_found : (ps : Patterns Ref BindId) (q : ℕ) → Plain_parts types home K places ps q → (ts : Sizes) → All_nodes N ps q ts s → (G : Context) (d : Free) → Part_named N ps ts d → (with_all_patterns s ps q G).finds d ≡ true
         part_found no_pattern q h ts n G d y = absurd y
         part_found (pattern_and p ps) q h no_size n G d y = absurd y
-        part_found (pattern_and p ps) q h (size_and t ts) n G d (inl y) = parts_still ps (q + pattern_numbers p) (with_names s p q G) d (no_part_by_home types home K places N ps (q + pattern_numbers p) q (q + pattern_numbers p) (omega arith) h.1 d (named_there types home K places N p q h.0 t d y)) (found_named p q h.0 t n.0 G d y)
-        part_found (pattern_and p ps) q h (size_and t ts) n G d (inr y) = part_found ps (q + pattern_numbers p) h.1 ts n.1 (with_names s p q G) d y
+        part_found (pattern_and p ps) q h (size_and t ts) n G d (inl y) = parts_still ps (q + pattern_numbers p) (with_pattern s p q G) d (no_part_by_home types home K places N ps (q + pattern_numbers p) q (q + pattern_numbers p) (omega arith) h.1 d (named_there types home K places N p q h.0 t d y)) (found_named p q h.0 t n.0 G d y)
+        part_found (pattern_and p ps) q h (size_and t ts) n G d (inr y) = part_found ps (q + pattern_numbers p) h.1 ts n.1 (with_pattern s p q G) d y
 
-        fields_found : (ls : List Text) (ps : Patterns Ref BindId) (q : ℕ) → Plain_parts types home K places ps q → (t : Size) → Fields_nodes N ls ps q t s → (G : Context) (d : Free) → Fields_named N ls ps t d → (with_all_names s ps q G).finds d ≡ true
+        fields_found : (ls : List Text) (ps : Patterns Ref BindId) (q : ℕ) → Plain_parts types home K places ps q → (t : Size) → Fields_nodes N ls ps q t s → (G : Context) (d : Free) → Fields_named N ls ps t d → (with_all_patterns s ps q G).finds d ≡ true
         fields_found [] ps q h t n G d y = absurd y
         fields_found (l ∷ ls) no_pattern q h t n G d y = absurd y
-        fields_found (l ∷ ls) (pattern_and p ps) q h t n G d (inl y) = parts_still ps (q + pattern_numbers p) (with_names s p q G) d (no_part_by_home types home K places N ps (q + pattern_numbers p) q (q + pattern_numbers p) (omega arith) h.1 d (of_part (part_of N l t) (λ u. Named_by N p u d) (Name_there types home K places q (q + pattern_numbers p) d) (λ u k. named_there types home K places N p q h.0 u d k) y)) (both_parts (part_of N l t) (λ u. Named_by N p u d) (λ u. Nodes N p q u s) ((with_names s p q G).finds d ≡ true) (λ u k m. found_named p q h.0 u m G d k) y n.0)
-        fields_found (l ∷ ls) (pattern_and p ps) q h t n G d (inr y) = fields_found ls ps (q + pattern_numbers p) h.1 t n.1 (with_names s p q G) d y
+        fields_found (l ∷ ls) (pattern_and p ps) q h t n G d (inl y) = parts_still ps (q + pattern_numbers p) (with_pattern s p q G) d (no_part_by_home types home K places N ps (q + pattern_numbers p) q (q + pattern_numbers p) (omega arith) h.1 d (of_part (part_of N l t) (λ u. Named_by N p u d) (Name_there types home K places q (q + pattern_numbers p) d) (λ u k. named_there types home K places N p q h.0 u d k) y)) (both_parts (part_of N l t) (λ u. Named_by N p u d) (λ u. Nodes N p q u s) ((with_pattern s p q G).finds d ≡ true) (λ u k m. found_named p q h.0 u m G d k) y n.0)
+        fields_found (l ∷ ls) (pattern_and p ps) q h t n G d (inr y) = fields_found ls ps (q + pattern_numbers p) h.1 t n.1 (with_pattern s p q G) d y
 
       mutual
-        types_still : (p : FlatPattern) (q : ℕ) (G : Context) (v : Variable) → (with_names s p q G).finds_types v ≡ G.finds_types v
-        types_still (Bound_pattern x) q G v = refl
-        types_still Wild_pattern q G v = refl
-        types_still (Tuple_pattern ps) q G v = parts_types_still ps (1 + q) G v
-        types_still (Record_pattern fs ps) q G v = parts_types_still ps (1 + q) G v
-        types_still (Typed_pattern p e) q G v = types_still p q G v
+        types_still : (p : FlatPattern) (q : ℕ) (G : Context) (v : Variable) → G.finds_types v ≡ true → (with_pattern s p q G).finds_types v ≡ true
+        types_still (Bound_pattern x) q G v y = types_entered (s q) G v y
+        types_still Wild_pattern q G v y = types_entered (s q) G v y
+        types_still (Tuple_pattern ps) q G v y = parts_types_still ps (1 + q) (with_entered (s q) G) v (types_entered (s q) G v y)
+        types_still (Record_pattern fs ps) q G v y = parts_types_still ps (1 + q) (with_entered (s q) G) v (types_entered (s q) G v y)
+        types_still (Typed_pattern p e) q G v y = types_still p q G v y
 
-        parts_types_still : (ps : Patterns Ref BindId) (q : ℕ) (G : Context) (v : Variable) → (with_all_names s ps q G).finds_types v ≡ G.finds_types v
-        parts_types_still no_pattern q G v = refl
-        parts_types_still (pattern_and p ps) q G v = parts_types_still ps (q + pattern_numbers p) (with_names s p q G) v ∙ types_still p q G v
+        parts_types_still : (ps : Patterns Ref BindId) (q : ℕ) (G : Context) (v : Variable) → G.finds_types v ≡ true → (with_all_patterns s ps q G).finds_types v ≡ true
+        parts_types_still no_pattern q G v y = y
+        parts_types_still (pattern_and p ps) q G v y = parts_types_still ps (q + pattern_numbers p) (with_pattern s p q G) v (types_still p q G v y)
+
+      -- what stands in the value is found behind the pattern
+      found_standing : (p : FlatPattern) (q : ℕ) (G : Context) (d : Free) → No_name_of (names p) d → stands (s q) d ≡ true → (with_pattern s p q G).finds d ≡ true
+      found_standing (Bound_pattern x) q G d a y = name_still x (s q) (with_entered (s q) G) d a (standing_entered (s q) G d y)
+      found_standing Wild_pattern q G d a y = standing_entered (s q) G d y
+      found_standing (Tuple_pattern ps) q G d a y = parts_still ps (1 + q) (with_entered (s q) G) d a (standing_entered (s q) G d y)
+      found_standing (Record_pattern fs ps) q G d a y = parts_still ps (1 + q) (with_entered (s q) G) d a (standing_entered (s q) G d y)
+      found_standing (Typed_pattern p e) q G d a y = found_standing p q G d a y
+
+      types_standing : (p : FlatPattern) (q : ℕ) (G : Context) (v : Variable) → has_hole (s q) v ≡ true → (with_pattern s p q G).finds_types v ≡ true
+      types_standing (Bound_pattern x) q G v y = holes_entered (s q) G v y
+      types_standing Wild_pattern q G v y = holes_entered (s q) G v y
+      types_standing (Tuple_pattern ps) q G v y = parts_types_still ps (1 + q) (with_entered (s q) G) v (holes_entered (s q) G v y)
+      types_standing (Record_pattern fs ps) q G v y = parts_types_still ps (1 + q) (with_entered (s q) G) v (holes_entered (s q) G v y)
+      types_standing (Typed_pattern p e) q G v y = types_standing p q G v y
 
       of_field : (o : Option Size) (p : FlatPattern) (q : ℕ) (X : Type 0) → ((u : Size) → o ≡ Some u → Has_parts N p u → Nodes N p q u s → X) → Field_has N p o → If_part o (λ u. Nodes N p q u s) → X
       of_field (Some u) p q X f c n = f u refl c n
@@ -440,7 +480,7 @@ module _ (N : Names) (types : Sub) (K : Kinds) (places : Kind) (In' : Free → T
       mutual
         unfolding Each_hole Each_holes
 
-        none_open_with : (p : FlatPattern) (q : ℕ) (t : Size) → Has_parts N p t → Nodes N p q t s → Each_hole Any_variable t → (G : Context) → None_open G → None_open (with_names s p q G)
+        none_open_with : (p : FlatPattern) (q : ℕ) (t : Size) → Has_parts N p t → Nodes N p q t s → Each_hole Any_variable t → (G : Context) → None_open G → None_open (with_pattern s p q G)
         none_open_with (Bound_pattern x) q t c n h G o = (λ b u z. by_size b u (nat_eq x.0 b) z, λ b u z. by_scheme b u (nat_eq x.0 b) z)
           where
             by_size : (b : ℕ) (u : Size) (k : Bool) → cond k (Some (s q)) (G.sizes b) ≡ Some u → Each_hole Any_variable u
@@ -451,39 +491,40 @@ module _ (N : Names) (types : Sub) (K : Kinds) (places : Kind) (In' : Free → T
             by_scheme b u true z = absurd (let w : None ≡ Some u = z in cc)
             by_scheme b u false z = o.1 b u z
         none_open_with Wild_pattern q t c n h G o = o
-        none_open_with (Tuple_pattern ps) q (Built g ts) c n h G o = none_open_parts ps (1 + q) ts c.1 n.1 h G o
+        none_open_with (Tuple_pattern ps) q (Built g ts) c n h G o = none_open_parts ps (1 + q) ts c.1 n.1 h (with_entered (s q) G) o
         none_open_with (Tuple_pattern ps) q (Hole v) c n h G o = absurd c
         none_open_with (Tuple_pattern ps) q (Open m v w) c n h G o = absurd c
         none_open_with (Tuple_pattern ps) q (Level d t) c n h G o = absurd c
         none_open_with (Tuple_pattern ps) q (Fun k p r) c n h G o = absurd c
-        none_open_with (Record_pattern fs ps) q t c n h G o = none_open_fields fs ps (1 + q) t c n.1 h G o
+        none_open_with (Record_pattern fs ps) q t c n h G o = none_open_fields fs ps (1 + q) t c n.1 h (with_entered (s q) G) o
         none_open_with (Typed_pattern p e) q t c n h G o = none_open_with p q t c.1 n h G o
 
-        none_open_parts : (ps : Patterns Ref BindId) (q : ℕ) (ts : Sizes) → All_have_parts N ps ts → All_nodes N ps q ts s → Each_holes Any_variable ts → (G : Context) → None_open G → None_open (with_all_names s ps q G)
+        none_open_parts : (ps : Patterns Ref BindId) (q : ℕ) (ts : Sizes) → All_have_parts N ps ts → All_nodes N ps q ts s → Each_holes Any_variable ts → (G : Context) → None_open G → None_open (with_all_patterns s ps q G)
         none_open_parts no_pattern q ts c n h G o = o
         none_open_parts (pattern_and p ps) q no_size c n h G o = absurd c
-        none_open_parts (pattern_and p ps) q (size_and t ts) c n h G o = none_open_parts ps (q + pattern_numbers p) ts c.1 n.1 h.1 (with_names s p q G) (none_open_with p q t c.0 n.0 h.0 G o)
+        none_open_parts (pattern_and p ps) q (size_and t ts) c n h G o = none_open_parts ps (q + pattern_numbers p) ts c.1 n.1 h.1 (with_pattern s p q G) (none_open_with p q t c.0 n.0 h.0 G o)
 
-        none_open_fields : (ls : List Text) (ps : Patterns Ref BindId) (q : ℕ) (t : Size) → Fields_have N ls ps t → Fields_nodes N ls ps q t s → Each_hole Any_variable t → (G : Context) → None_open G → None_open (with_all_names s ps q G)
+        none_open_fields : (ls : List Text) (ps : Patterns Ref BindId) (q : ℕ) (t : Size) → Fields_have N ls ps t → Fields_nodes N ls ps q t s → Each_hole Any_variable t → (G : Context) → None_open G → None_open (with_all_patterns s ps q G)
         none_open_fields [] no_pattern q t c n h G o = o
         none_open_fields [] (pattern_and p ps) q t c n h G o = absurd c
         none_open_fields (l ∷ ls) no_pattern q t c n h G o = absurd c
-        none_open_fields (l ∷ ls) (pattern_and p ps) q t c n h G o = none_open_fields ls ps (q + pattern_numbers p) t c.1 n.1 h (with_names s p q G)
-            (of_field (part_of N l t) p q (None_open (with_names s p q G)) (λ u e k m. none_open_with p q u k m (part_none_open N l t h u e) G o) c.0 n.0)
+        none_open_fields (l ∷ ls) (pattern_and p ps) q t c n h G o = none_open_fields ls ps (q + pattern_numbers p) t c.1 n.1 h (with_pattern s p q G)
+            (of_field (part_of N l t) p q (None_open (with_pattern s p q G)) (λ u e k m. none_open_with p q u k m (part_none_open N l t h u e) G o) c.0 n.0)
 
-      module _ (bs : List ℕ) (p : FlatPattern) (q : ℕ) (l : Plain_pattern types home K places p q) (t : Size) (c : Has_parts N p t) (n : Nodes N p q t s) (scope : Scope) (G : Context) (known : (b : ℕ) (g : Bool) (u : Size) → is_among bs b ≡ false → is_among (names p) b ≡ false → scope b ≡ Some (record { size = u; is_general = g }) → named_in b g u g G ≡ Some u) (none_open : None_open G) (closed : Each_hole Any_variable t) where
-        pub judged_names : ((d : Free) → In' d → Named_by N p t d ⊎ (((G.finds d ≡ true) × No_name_of (names p) d) ⊎ Is_const d)) → ((v : Variable) → Vars' v → G.finds_types v ≡ true) → Judged_but bs In' Vars' (bound_scope N p t scope) (with_names s p q G)
-        judged_names split types_found = record {
-          sizes = λ b u k z. sizes_with b false u p q t c n scope G (known b false u k) z;
-          schemes = λ b u k z. sizes_with b true u p q t c n scope G (known b true u k) z;
-          none_open = none_open_with p q t c n closed G none_open;
+      -- one name more, of a value that is not entered
+      module _ (bs : List ℕ) (x : BindId) (q : ℕ) (t : Size) (n : s q ≡ t) (scope : Scope) (G : Context) (known : (b : ℕ) (g : Bool) (u : Size) → is_among bs b ≡ false → is_among (x.0 ∷ []) b ≡ false → scope b ≡ Some (record { size = u; is_general = g }) → named_in b g u g G ≡ Some u) (none_open : None_open G) (closed : Each_hole Any_variable t) where
+        pub judged_name : ((d : Free) → In' d → Named_by N (Bound_pattern x) t d ⊎ (((G.finds d ≡ true) × No_name_of (x.0 ∷ []) d) ⊎ Is_const d)) → ((v : Variable) → Vars' v → G.finds_types v ≡ true) → Judged_but bs In' Vars' (with_name x.0 t scope) (with_known_name x.0 (s q) G)
+        judged_name split types_found = record {
+          sizes = λ b u k z. sizes_with b false u (Bound_pattern x) q t tt n scope G (known b false u k) z;
+          schemes = λ b u k z. sizes_with b true u (Bound_pattern x) q t tt n scope G (known b true u k) z;
+          none_open = none_open_with (Bound_pattern x) q t tt n closed G none_open;
           finds = λ d i. by_form d (split d i);
-          finds_types = λ v i. types_still p q G v ∙ types_found v i;
+          finds_types = λ v i. types_found v i;
         }
           where
-            by_form : (d : Free) → Named_by N p t d ⊎ (((G.finds d ≡ true) × No_name_of (names p) d) ⊎ Is_const d) → ((with_names s p q G).finds d ≡ true) ⊎ Is_const d
-            by_form d (inl y) = inl (found_named p q l t n G d y)
-            by_form d (inr (inl y)) = inl (found_still p q G d y.1 y.0)
+            by_form : (d : Free) → Named_by N (Bound_pattern x) t d ⊎ (((G.finds d ≡ true) × No_name_of (x.0 ∷ []) d) ⊎ Is_const d) → ((with_known_name x.0 (s q) G).finds d ≡ true) ⊎ Is_const d
+            by_form d (inl y) = inl (name_found x (s q) G d y.0 (i64_number (s q) (ap is_i64_size n ∙ y.1)))
+            by_form d (inr (inl y)) = inl (name_still x (s q) G d y.1 y.0)
             by_form d (inr (inr y)) = inr y
 
       module _ (bs : List ℕ) (In : Free → Type 0) (Vars : Variable → Type 0) (p : FlatPattern) (q : ℕ) (l : Plain_pattern types home K places p q) (t : Size) (c : Has_parts N p t) (n : Nodes N p q t s) (scope : Scope) (G : Context) where
@@ -492,21 +533,24 @@ module _ (N : Names) (types : Sub) (K : Kinds) (places : Kind) (In' : Free → T
             → ((b : ℕ) (g : Bool) (u : Size) → is_among bs b ≡ false → is_among (names p) b ≡ false → scope b ≡ Some (record { size = u; is_general = g }) → named_in b g u g G ≡ Some u) → None_open G → Each_hole Any_variable t
             → ((d : Free) → In d → (G.finds d ≡ true) ⊎ Is_const d) → ((v : Variable) → Vars v → G.finds_types v ≡ true)
             → Judged_but bs In' Vars' (bound_scope N p t scope) (with_pattern s p q G)
-        judged_with apart split split_types known none_open closed finds types_found = judged_names bs p q l t c n scope (with_entered (s q) G) known none_open closed (λ d i. by_form d (split d i)) (λ v i. types_here v (split_types v i))
+        judged_with apart split split_types known none_open closed finds types_found = record {
+          sizes = λ b u k z. sizes_with b false u p q t c n scope G (known b false u k) z;
+          schemes = λ b u k z. sizes_with b true u p q t c n scope G (known b true u k) z;
+          none_open = none_open_with p q t c n closed G none_open;
+          finds = λ d i. by_form d (split d i);
+          finds_types = λ v i. types_here v (split_types v i);
+        }
           where
-            standing : (d : Free) → stands t d ≡ true → stands (s q) d || (stands_told (s q) d || G.finds d) ≡ true
-            standing d y = or_first (stands (s q) d) (stands_told (s q) d || G.finds d) (ap (λ u. stands u d) (first_node N p q t s n) ∙ y)
+            of_before : (d : Free) → In d → (G.finds d ≡ true) ⊎ Is_const d → ((with_pattern s p q G).finds d ≡ true) ⊎ Is_const d
+            of_before d i (inl y) = inl (found_still p q G d (no_name_by_home types home K places N p q l d (λ b z w. apart b (subst In z i) w)) y)
+            of_before d i (inr y) = inr y
 
-            of_before : (d : Free) → In d → (G.finds d ≡ true) ⊎ Is_const d → Named_by N p t d ⊎ ((((with_entered (s q) G).finds d ≡ true) × No_name_of (names p) d) ⊎ Is_const d)
-            of_before d i (inl y) = inr (inl (or_later (stands (s q) d) (stands_told (s q) d || G.finds d) (or_later (stands_told (s q) d) (G.finds d) y), no_name_by_home types home K places N p q l d (λ b z w. apart b (subst In z i) w)))
-            of_before d i (inr y) = inr (inr y)
-
-            by_form : (d : Free) → In d ⊎ (Stands_there (names p) t d ⊎ (Named_by N p t d ⊎ Is_const d)) → Named_by N p t d ⊎ ((((with_entered (s q) G).finds d ≡ true) × No_name_of (names p) d) ⊎ Is_const d)
+            by_form : (d : Free) → In d ⊎ (Stands_there (names p) t d ⊎ (Named_by N p t d ⊎ Is_const d)) → ((with_pattern s p q G).finds d ≡ true) ⊎ Is_const d
             by_form d (inl i) = of_before d i (finds d i)
-            by_form d (inr (inl y)) = inr (inl (standing d y.0, y.1))
-            by_form d (inr (inr (inl y))) = inl y
-            by_form d (inr (inr (inr y))) = inr (inr y)
+            by_form d (inr (inl y)) = inl (found_standing p q G d y.1 (ap (λ u. stands u d) (first_node N p q t s n) ∙ y.0))
+            by_form d (inr (inr (inl y))) = inl (found_named p q l t n G d y)
+            by_form d (inr (inr (inr y))) = inr y
 
-            types_here : (v : Variable) → Vars v ⊎ (has_hole t v ≡ true) → has_hole (s q) v || (has_told (s q) v || G.finds_types v) ≡ true
-            types_here v (inl i) = or_later (has_hole (s q) v) (has_told (s q) v || G.finds_types v) (or_later (has_told (s q) v) (G.finds_types v) (types_found v i))
-            types_here v (inr y) = or_first (has_hole (s q) v) (has_told (s q) v || G.finds_types v) (ap (λ u. has_hole u v) (first_node N p q t s n) ∙ y)
+            types_here : (v : Variable) → Vars v ⊎ (has_hole t v ≡ true) → (with_pattern s p q G).finds_types v ≡ true
+            types_here v (inl i) = types_still p q G v (types_found v i)
+            types_here v (inr y) = types_standing p q G v (ap (λ u. has_hole u v) (first_node N p q t s n) ∙ y)

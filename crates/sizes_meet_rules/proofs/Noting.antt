@@ -12,7 +12,8 @@ use Rattle.fut_sizes.specs.Sizing.{all_noted, met_noted}
 use Rattle.fut_sizes.specs.Steps.{State, Done, and_then, note, at_node}
 use Rattle.fut_sizes.specs.Suiting.{Each, Each_all, Scoped, Data, All_data}
 use Rattle.sizes_meet_rules.specs.Known.{Formed}
-use Rattle.sizes_meet_rules.proofs.Chains.{Given, Takes_all, frame, framed_as, here, opened_by, after, wants, laters, last_opened, last_size, Plain_given, All_plain, Reads, number_value, Meant, step_in}
+use Rattle.sizes_meet_rules.proofs.Applying.{read_settled}
+use Rattle.sizes_meet_rules.proofs.Chains.{Given, Alone, alone_scoped, alone_at, alone_replaced, Taken_by, taken_typed, Takes_all, frame, framed_as, here, opened_by, after, wants, laters, last_opened, last_size, Plain_given, All_plain, Reads, number_value, Meant, step_in}
 use Rattle.sizes_meet_rules.proofs.Frames.{Frames, pushed, Okay, more, filled, Framed, push_framed, closes, Settled_parameters, quantified_as, dim_low, dim_high}
 use Rattle.sizes_meet_rules.proofs.Meeting.{Then_ok, then_ok, same_ok, at_itself, at_another, each_scoped}
 use Rattle.sizes_meet_rules.proofs.Replacing.{each_as, hole_replaced}
@@ -127,7 +128,7 @@ All_some (g ∷ gs) = (1 ≤ numbers g.term) × All_some gs
 module _ (N : Names) (types : Sub) (τ : Found) (n : ℕ) where
   pub laters_avoid : (gs : List Given) (φ : Opened) (t : Size) (σ : Found) (x : ℕ) → here n gs < x → Avoids N types τ x (laters n gs φ t σ)
   laters_avoid [] φ t σ x l = tt
-  laters_avoid (g ∷ gs) φ (Fun k p r) σ x l = ((λ z. omega (arith, z, l)), laters_avoid gs (opened_by n gs g σ k φ) r (after n gs σ k r) x (omega (arith, l)))
+  laters_avoid (g ∷ gs) φ (Fun k p r) σ x l = ((λ z. omega (arith, z, l)), laters_avoid gs (opened_by n gs g σ k φ) r (after n gs g σ k) x (omega (arith, l)))
   laters_avoid (g ∷ gs) φ (Hole v) σ x l = tt
   laters_avoid (g ∷ gs) φ (Open m v u) σ x l = tt
   laters_avoid (g ∷ gs) φ (Level d t) σ x l = tt
@@ -135,7 +136,7 @@ module _ (N : Names) (types : Sub) (τ : Found) (n : ℕ) where
 
   pub laters_within : (gs : List Given) (φ : Opened) (t : Size) (σ : Found) (hi : ℕ) → here n gs < hi → Within N types τ (suc n) hi (laters n gs φ t σ)
   laters_within [] φ t σ hi l = tt
-  laters_within (g ∷ gs) φ (Fun k p r) σ hi l = ((omega arith, omega (arith, l)), laters_within gs (opened_by n gs g σ k φ) r (after n gs σ k r) hi (omega (arith, l)))
+  laters_within (g ∷ gs) φ (Fun k p r) σ hi l = ((omega arith, omega (arith, l)), laters_within gs (opened_by n gs g σ k φ) r (after n gs g σ k) hi (omega (arith, l)))
   laters_within (g ∷ gs) φ (Hole v) σ hi l = tt
   laters_within (g ∷ gs) φ (Open m v u) σ hi l = tt
   laters_within (g ∷ gs) φ (Level d t) σ hi l = tt
@@ -143,7 +144,7 @@ module _ (N : Names) (types : Sub) (τ : Found) (n : ℕ) where
 
   pub laters_distinct : (gs : List Given) (φ : Opened) (t : Size) (σ : Found) → Distinct N types τ (laters n gs φ t σ)
   laters_distinct [] φ t σ = tt
-  laters_distinct (g ∷ gs) φ (Fun k p r) σ = (laters_avoid gs (opened_by n gs g σ k φ) r (after n gs σ k r) (suc (here n gs)) (omega arith), laters_distinct gs (opened_by n gs g σ k φ) r (after n gs σ k r))
+  laters_distinct (g ∷ gs) φ (Fun k p r) σ = (laters_avoid gs (opened_by n gs g σ k φ) r (after n gs g σ k) (suc (here n gs)) (omega arith), laters_distinct gs (opened_by n gs g σ k φ) r (after n gs g σ k))
   laters_distinct (g ∷ gs) φ (Hole v) σ = tt
   laters_distinct (g ∷ gs) φ (Open m v u) σ = tt
   laters_distinct (g ∷ gs) φ (Level d t) σ = tt
@@ -152,7 +153,7 @@ module _ (N : Names) (types : Sub) (τ : Found) (n : ℕ) where
   pub laters_closed : (gs : List Given) (φ : Opened) (t : Size) (σ : Found) → Each_hole Any_variable t → Closed_laters N types τ (laters n gs φ t σ)
   unfolding Each_hole
   laters_closed [] φ t σ h = tt
-  laters_closed (g ∷ gs) φ (Fun k p r) σ h = (hole_replaced (dim_in φ) Any_variable (Fun k p r) 0 h, laters_closed gs (opened_by n gs g σ k φ) r (after n gs σ k r) h.1)
+  laters_closed (g ∷ gs) φ (Fun k p r) σ h = (hole_replaced (dim_in φ) Any_variable (Fun k p r) 0 h, laters_closed gs (opened_by n gs g σ k φ) r (after n gs g σ k) h.1)
   laters_closed (g ∷ gs) φ (Hole v) σ h = tt
   laters_closed (g ∷ gs) φ (Open m v u) σ h = tt
   laters_closed (g ∷ gs) φ (Level d t) σ h = tt
@@ -165,7 +166,7 @@ module _ (N : Names) (types : Sub) (τ : Found) (n : ℕ) where
 
   pub uses_avoid : (gs : List Given) (φ : Opened) (t : Size) (σ : Found) (from hi x : ℕ) → Placed gs from hi → x < from → Avoids N types τ x (uses (wants n gs φ t σ))
   uses_avoid [] φ t σ from hi x p l = tt
-  uses_avoid (g ∷ gs) φ (Fun k p r) σ from hi x pl l = one_use g.named g.node g.value g.size (opened_by n gs g σ k φ) p (uses (wants n gs (opened_by n gs g σ k φ) r (after n gs σ k r))) x (λ z. let y = pl.0 in omega (arith, z, y, l)) (uses_avoid gs (opened_by n gs g σ k φ) r (after n gs σ k r) (from + numbers g.term) hi x pl.1 (omega (arith, l)))
+  uses_avoid (g ∷ gs) φ (Fun k p r) σ from hi x pl l = one_use g.named g.node g.value g.size (opened_by n gs g σ k φ) p (uses (wants n gs (opened_by n gs g σ k φ) r (after n gs g σ k))) x (λ z. let y = pl.0 in omega (arith, z, y, l)) (uses_avoid gs (opened_by n gs g σ k φ) r (after n gs g σ k) (from + numbers g.term) hi x pl.1 (omega (arith, l)))
   uses_avoid (g ∷ gs) φ (Hole v) σ from hi x pl l = tt
   uses_avoid (g ∷ gs) φ (Open m v u) σ from hi x pl l = tt
   uses_avoid (g ∷ gs) φ (Level d t) σ from hi x pl l = tt
@@ -177,8 +178,8 @@ module _ (N : Names) (types : Sub) (τ : Found) (n : ℕ) where
 
   pub uses_within : (gs : List Given) (φ : Opened) (t : Size) (σ : Found) (lo from hi : ℕ) → All_some gs → Placed gs from hi → lo ≤ from → Within N types τ lo hi (uses (wants n gs φ t σ))
   uses_within [] φ t σ lo from hi s p l = tt
-  uses_within (g ∷ gs) φ (Fun k p r) σ lo from hi s pl l = one_within g.named g.node g.value g.size (opened_by n gs g σ k φ) p (uses (wants n gs (opened_by n gs g σ k φ) r (after n gs σ k r))) lo hi (let y = pl.0 in omega (arith, y, l)) (let y = pl.0 in let z = placed_order gs (from + numbers g.term) hi pl.1 in let w = s.0 in omega (arith, y, z, w))
-      (uses_within gs (opened_by n gs g σ k φ) r (after n gs σ k r) lo (from + numbers g.term) hi s.1 pl.1 (omega (arith, l)))
+  uses_within (g ∷ gs) φ (Fun k p r) σ lo from hi s pl l = one_within g.named g.node g.value g.size (opened_by n gs g σ k φ) p (uses (wants n gs (opened_by n gs g σ k φ) r (after n gs g σ k))) lo hi (let y = pl.0 in omega (arith, y, l)) (let y = pl.0 in let z = placed_order gs (from + numbers g.term) hi pl.1 in let w = s.0 in omega (arith, y, z, w))
+      (uses_within gs (opened_by n gs g σ k φ) r (after n gs g σ k) lo (from + numbers g.term) hi s.1 pl.1 (omega (arith, l)))
   uses_within (g ∷ gs) φ (Hole v) σ lo from hi s pl l = tt
   uses_within (g ∷ gs) φ (Open m v u) σ lo from hi s pl l = tt
   uses_within (g ∷ gs) φ (Level d t) σ lo from hi s pl l = tt
@@ -190,8 +191,8 @@ module _ (N : Names) (types : Sub) (τ : Found) (n : ℕ) where
 
   pub uses_distinct : (gs : List Given) (φ : Opened) (t : Size) (σ : Found) (from hi : ℕ) → All_some gs → Placed gs from hi → Distinct N types τ (uses (wants n gs φ t σ))
   uses_distinct [] φ t σ from hi s p = tt
-  uses_distinct (g ∷ gs) φ (Fun k p r) σ from hi s pl = one_distinct g.named g.node g.value g.size (opened_by n gs g σ k φ) p (uses (wants n gs (opened_by n gs g σ k φ) r (after n gs σ k r))) (uses_avoid gs (opened_by n gs g σ k φ) r (after n gs σ k r) (from + numbers g.term) hi g.node pl.1 (let y = pl.0 in let w = s.0 in omega (arith, y, w)))
-      (uses_distinct gs (opened_by n gs g σ k φ) r (after n gs σ k r) (from + numbers g.term) hi s.1 pl.1)
+  uses_distinct (g ∷ gs) φ (Fun k p r) σ from hi s pl = one_distinct g.named g.node g.value g.size (opened_by n gs g σ k φ) p (uses (wants n gs (opened_by n gs g σ k φ) r (after n gs g σ k))) (uses_avoid gs (opened_by n gs g σ k φ) r (after n gs g σ k) (from + numbers g.term) hi g.node pl.1 (let y = pl.0 in let w = s.0 in omega (arith, y, w)))
+      (uses_distinct gs (opened_by n gs g σ k φ) r (after n gs g σ k) (from + numbers g.term) hi s.1 pl.1)
   uses_distinct (g ∷ gs) φ (Hole v) σ from hi s pl = tt
   uses_distinct (g ∷ gs) φ (Open m v u) σ from hi s pl = tt
   uses_distinct (g ∷ gs) φ (Level d t) σ from hi s pl = tt
@@ -204,7 +205,7 @@ module _ (N : Names) (types : Sub) (τ : Found) (n : ℕ) where
   pub uses_closed : (gs : List Given) (φ : Opened) (t : Size) (σ : Found) → Each_hole Any_variable t → Closed_laters N types τ (uses (wants n gs φ t σ))
   unfolding Each_hole
   uses_closed [] φ t σ h = tt
-  uses_closed (g ∷ gs) φ (Fun k p r) σ h = one_closed g.named g.node g.value g.size (opened_by n gs g σ k φ) p (uses (wants n gs (opened_by n gs g σ k φ) r (after n gs σ k r))) h.0 (uses_closed gs (opened_by n gs g σ k φ) r (after n gs σ k r) h.1)
+  uses_closed (g ∷ gs) φ (Fun k p r) σ h = one_closed g.named g.node g.value g.size (opened_by n gs g σ k φ) p (uses (wants n gs (opened_by n gs g σ k φ) r (after n gs g σ k))) h.0 (uses_closed gs (opened_by n gs g σ k φ) r (after n gs g σ k) h.1)
   uses_closed (g ∷ gs) φ (Hole v) σ h = tt
   uses_closed (g ∷ gs) φ (Open m v u) σ h = tt
   uses_closed (g ∷ gs) φ (Level d t) σ h = tt
@@ -277,6 +278,18 @@ module _ (N : Names) (types : Sub) (τ : Found) (n : ℕ) where
         all_settle no_size j d h s = tt
         all_settle (size_and p ps) j d h s = (settles p j d.0 h.0 s.0, all_settle ps j d.1 h.1 s.1)
 
+      alone_resolved : (l : ℕ) (d : Dim) → Alone Is_settled l d → Resolved δ 0 d
+      alone_resolved l (At x) h k i e m = absurd (let z : At x ≡ Bound k i = e in cc)
+      alone_resolved l (Bound a b) h k i e m = absurd h
+
+      taken_resolved : (p t : Size) → Taken_by p t → Each (Okay In ok) 0 p → Each (Scoped Is_settled) 0 (read τ (replaced (dim_in φ) 0 p)) → Each (λ l d. Resolved δ 0 d) 0 p
+      taken_resolved p t (inl d) h s = resolved p d.0.0 h s
+      taken_resolved p t (inr f) h s = each_as (Alone Is_settled) (λ l d. Resolved δ 0 d) alone_resolved p 0 f.alone
+
+      taken_settles : (p t : Size) (j : ℕ) → Taken_by p t → Each (Okay In ok) j p → Each (λ l d. Resolved δ j d) 0 p → Each (Scoped Is_settled) j (read τ (replaced (dim_in φ) j p))
+      taken_settles p t j (inl d) h s = settles p j d.0.0 h s
+      taken_settles p t j (inr f) h s = subst (Each (Scoped Is_settled) j) (sym (ap (read τ) (alone_replaced Is_settled (dim_in φ) (λ i x. refl) p 0 j f.alone) ∙ read_settled τ p 0 (alone_scoped Is_settled p 0 f.alone) f.closed)) (alone_scoped Is_settled p j (alone_at Is_settled p 0 j f.alone))
+
       abbrev All_resolved : List Given → ℕ → Size → Type 0
       All_resolved (g ∷ gs) j (Fun k p r) = Each (λ l d. Resolved δ (suc j) d) 0 p × All_resolved gs (suc j) r
       All_resolved gs j t = Unit {0}
@@ -288,7 +301,7 @@ module _ (N : Names) (types : Sub) (τ : Found) (n : ℕ) where
       parameters_settled [] (Level d t) j h e a = tt
       parameters_settled [] (Built g ts) j h e a = tt
       parameters_settled [] (Fun k p r) j h e a = absurd h
-      parameters_settled (g ∷ gs) (Fun k p r) j h e a = (settles p (suc j) h.0.0 e.0 a.0, parameters_settled gs r (suc j) h.1 e.1 a.1)
+      parameters_settled (g ∷ gs) (Fun k p r) j h e a = (taken_settles p g.size (suc j) h.0 e.0 a.0, parameters_settled gs r (suc j) h.1 e.1 a.1)
       parameters_settled (g ∷ gs) (Hole v) j h e a = absurd h
       parameters_settled (g ∷ gs) (Open b v u) j h e a = absurd h
       parameters_settled (g ∷ gs) (Level d t) j h e a = absurd h
@@ -306,7 +319,7 @@ module _ (N : Names) (types : Sub) (τ : Found) (n : ℕ) where
     -- ---- the sized types of all functions and arguments
 
     abbrev pub Stages : List Given → Frames → Size → Found → (ℕ → Size) → Type 0
-    Stages (g ∷ gs) δ (Fun k p r) σ s = (s (suc (here n gs)) ≡ filled (ended δ) 0 (Fun k p r)) × ((filled (ended (pushed (frame (here n gs) σ.next k (number_value g)) δ)) 0 p ≡ g.size) × ((s g.node ≡ g.size) × Stages gs (pushed (frame (here n gs) σ.next k (number_value g)) δ) r (after n gs σ k r) s))
+    Stages (g ∷ gs) δ (Fun k p r) σ s = (s (suc (here n gs)) ≡ filled (ended δ) 0 (Fun k p r)) × ((filled (ended (pushed (frame (here n gs) σ.next k (number_value g)) δ)) 0 p ≡ g.size) × ((s g.node ≡ g.size) × Stages gs (pushed (frame (here n gs) σ.next k (number_value g)) δ) r (after n gs g σ k) s))
     Stages gs δ t σ s = s n ≡ filled (ended δ) 0 t
 
     abbrev pub Unnamed : List Given → (ℕ → Size) → Type 0
@@ -317,14 +330,14 @@ module _ (N : Names) (types : Sub) (τ : Found) (n : ℕ) where
       -- one argument more
       one_stage_more : (gs : List Given) (g : Given) (φ : Opened) (k : ℕ) (p r : Size) (σ : Found) (ok : ℕ → ℕ → Type 0) (δ : Frames) (framed : Framed φ ok δ) → Takes_all (g ∷ gs) (Fun k p r) → Each (Okay In ok) 0 (Fun k p r) → Each (Okay In (more (Meant k g) ok)) 0 p → Each_hole Any_variable (Fun k p r) → Each_hole Any_variable p → Plain_given n In P no_slot settled g
           → read τ (in_opened (opened_by n gs g σ k φ) p) ≡ g.size → (s : ℕ → Size) → s (suc (here n gs)) ≡ value_of N types τ (record { node = suc (here n gs); size = in_opened φ (Fun k p r) }) → Right N types τ (uses (wants n (g ∷ gs) φ (Fun k p r) σ)) s → (g.named ≡ false → s g.node ≡ g.size)
-          → ((framed' : Framed (opened_by n gs g σ k φ) (more (Meant k g) ok) (pushed (frame (here n gs) σ.next k (number_value g)) δ)) → Right N types τ (uses (wants n gs (opened_by n gs g σ k φ) r (after n gs σ k r))) s → Stages gs (pushed (frame (here n gs) σ.next k (number_value g)) δ) r (after n gs σ k r) s × All_resolved (opened_by n gs g σ k φ) (more (Meant k g) ok) (pushed (frame (here n gs) σ.next k (number_value g)) δ) framed' gs 0 r)
+          → ((framed' : Framed (opened_by n gs g σ k φ) (more (Meant k g) ok) (pushed (frame (here n gs) σ.next k (number_value g)) δ)) → Right N types τ (uses (wants n gs (opened_by n gs g σ k φ) r (after n gs g σ k))) s → Stages gs (pushed (frame (here n gs) σ.next k (number_value g)) δ) r (after n gs g σ k) s × All_resolved (opened_by n gs g σ k φ) (more (Meant k g) ok) (pushed (frame (here n gs) σ.next k (number_value g)) δ) framed' gs 0 r)
           → Stages (g ∷ gs) δ (Fun k p r) σ s × All_resolved φ ok δ framed (g ∷ gs) 0 (Fun k p r)
       one_stage_more gs g φ k p r σ ok δ framed h e ep o op a reads s noted named unnamed go =
           let framed' : Framed (opened_by n gs g σ k φ) (more (Meant k g) ok) (pushed (frame (here n gs) σ.next k (number_value g)) δ) = push_framed φ ok δ _ (frame (here n gs) σ.next k (number_value g)) (Meant k g) (framed_as (here n gs) σ.next k g) framed in
-          let given_settled : Each (Scoped Is_settled) 0 g.size = each_scoped P Is_settled settled g.size 0 a.2 in
-          let argument_here = use_here g.named g.node g.value g.size (opened_by n gs g σ k φ) p (uses (wants n gs (opened_by n gs g σ k φ) r (after n gs σ k r))) s g.size unnamed (ap (quantified τ.maker) reads ∙ none_quantified τ.maker g.size given_settled) named in
+          let given_settled : Each (Scoped Is_settled) 0 g.size = each_scoped P Is_settled settled g.size 0 a.1 in
+          let argument_here = use_here g.named g.node g.value g.size (opened_by n gs g σ k φ) p (uses (wants n gs (opened_by n gs g σ k φ) r (after n gs g σ k))) s g.size unnamed (ap (quantified τ.maker) reads ∙ none_quantified τ.maker g.size given_settled) named in
           let rest = go framed' argument_here.1 in
-          let parameter_resolved : Each (λ l d. Resolved (pushed (frame (here n gs) σ.next k (number_value g)) δ) 0 d) 0 p = resolved (opened_by n gs g σ k φ) (more (Meant k g) ok) (pushed (frame (here n gs) σ.next k (number_value g)) δ) framed' p h.0.0 ep (subst (λ w. Each (Scoped Is_settled) 0 w) (sym reads) given_settled) in
+          let parameter_resolved : Each (λ l d. Resolved (pushed (frame (here n gs) σ.next k (number_value g)) δ) 0 d) 0 p = taken_resolved (opened_by n gs g σ k φ) (more (Meant k g) ok) (pushed (frame (here n gs) σ.next k (number_value g)) δ) framed' p g.size h.0 ep (subst (λ w. Each (Scoped Is_settled) 0 w) (sym reads) given_settled) in
           let all_here : All_resolved φ ok δ framed (g ∷ gs) 0 (Fun k p r) = (
             each_as (λ l d. Resolved (pushed (frame (here n gs) σ.next k (number_value g)) δ) 0 d) (λ l d. Resolved δ 1 d) (λ l d y. shifted (frame (here n gs) σ.next k (number_value g)) δ 0 d y) p 0 parameter_resolved,
             all_shifted φ (opened_by n gs g σ k φ) ok (more (Meant k g) ok) δ framed (frame (here n gs) σ.next k (number_value g)) framed' gs r 0 rest.1,
@@ -340,9 +353,9 @@ module _ (N : Names) (types : Sub) (τ : Found) (n : ℕ) where
       unfolding Each Each_hole Formed
       stages [] φ t σ ok δ framed h e fm o a q s r1 r2 u z = (z ∙ closes In no_slot φ ok δ framed τ t 0 0 e o, tt)
       stages (g ∷ gs) φ (Fun k p r) σ ok δ framed h e fm o a q s r1 r2 u z =
-          let w = step_in In ok k p r g fm a.0.1 h.0.1 e in
+          let w = step_in In ok k p r g fm a.0.0 (taken_typed p g.size h.0) e in
           one_stage_more gs g φ k p r σ ok δ framed h e w.0 o o.0 a.0 q.0 s r1.0 r2 u.0
-          (λ framed' r3. stages gs (opened_by n gs g σ k φ) r (after n gs σ k r) (more (Meant k g) ok) (pushed (frame (here n gs) σ.next k (number_value g)) δ) framed' h.1 w.1 fm.1 o.1 a.1 q.1 s r1.1 r3 u.1 z)
+          (λ framed' r3. stages gs (opened_by n gs g σ k φ) r (after n gs g σ k) (more (Meant k g) ok) (pushed (frame (here n gs) σ.next k (number_value g)) δ) framed' h.1 w.1 fm.1 o.1 a.1 q.1 s r1.1 r3 u.1 z)
       stages (g ∷ gs) φ (Hole v) σ ok δ framed h e fm o a q s r1 r2 u z = absurd h
       stages (g ∷ gs) φ (Open m v x) σ ok δ framed h e fm o a q s r1 r2 u z = absurd h
       stages (g ∷ gs) φ (Level d t) σ ok δ framed h e fm o a q s r1 r2 u z = absurd h

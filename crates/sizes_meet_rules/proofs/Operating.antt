@@ -28,10 +28,9 @@ use Rattle.fut_typing.proofs.Members.{In as Is_in}
 use Rattle.sizes_meet_rules.proofs.Covering.{Apart, numbers_apart, here_place, there_place, placed_label, all_written}
 use Rattle.fut_sizes.specs.Operations.{operation, labelled, in_order, record_of, plain, part_or, empty_of, range_of, range_size, both, is_i64, element_ty, elements_agree, updated, indexed, many, value_of, slice_size, is_literal}
 use Rattle.fut_sizes.specs.Rules.{Each_hole, Each_holes}
-use Rattle.fut_sizes.specs.Scoping.{is_number}
 use Rattle.fut_sizes.specs.Suiting.{Each, Each_all, Scoped}
 use Rattle.fut_sizes.specs.WrittenSizes.{part as size_part, with_part, part_of, changed_part, has_sizes, ascribed, written_dim, dim_or, same_dim, with_sizes, all_with_sizes, fields_with_sizes, levels_there, coerced, coercion, declared}
-use Rattle.sizes_meet_rules.specs.Known.{Formed, All_formed, Is_made, Says}
+use Rattle.sizes_meet_rules.specs.Known.{is_i64_size, head_i64, Formed, All_formed, Is_made, Says}
 use Rattle.sizes_meet_rules.specs.Plain.{Formed_type, Written_data, All_written_data, Is_scalar, Plain_operation}
 use Rattle.sizes_meet_rules.proofs.Owning.{Owned, of_type_owned}
 use Rattle.sizes_meet_rules.proofs.Replacing.{hole_as}
@@ -537,12 +536,13 @@ module _ (N : Names) (types : Sub) (K : Kinds) (places : Kind) (In : Free → Ty
   operation_gives (Declared x) lo met at ts us t p r h e v w q = declared_gives x lo met at ts us t p r h e v w q
   operation_gives (Range b x) lo met at ts us t p r h e v w q = range_gives b x lo met at ts us t p r h e v w q
 
--- a sized type of an i64 is that of a number
-pub number_is : (t : Size) → Formed t → erased t ≡ i64_ty → is_number t ≡ true
+-- a sized type of an i64 is told
+pub number_is : (t : Size) → Formed t → erased t ≡ i64_ty → is_i64_size t ≡ true
 unfolding Formed erased all_erased
 number_is (Hole (Inferred v)) f e = absurd (let z : Var v ≡ Made (head.Scalar (scalar.Int int.I64)) none = e in cc)
 number_is (Hole (Written b k)) f e = absurd (let z : Made (head.Rigid b k) none ≡ Made (head.Scalar (scalar.Int int.I64)) none = e in cc)
 number_is (Open n v u) f e = absurd f
 number_is (Level d t) f e = absurd (let z : Made head.Array (more (erased t) none) ≡ Made (head.Scalar (scalar.Int int.I64)) none = e in cc)
-number_is (Built h ts) f e = ap (λ g. is_number (Built g ts)) (let z : Made h (all_erased ts) ≡ Made (head.Scalar (scalar.Int int.I64)) none = e in (let q : h ≡ head.Scalar (scalar.Int int.I64) = cc in q))
+number_is (Built h no_size) f e = ap head_i64 (let z : Made h none ≡ Made (head.Scalar (scalar.Int int.I64)) none = e in (let q : h ≡ head.Scalar (scalar.Int int.I64) = cc in q))
+number_is (Built h (size_and t ts)) f e = absurd (let z : Made h (more (erased t) (all_erased ts)) ≡ Made (head.Scalar (scalar.Int int.I64)) none = e in cc)
 number_is (Fun k p r) f e = absurd (let z : Made head.Fun (more (erased p) (more (erased r) none)) ≡ Made (head.Scalar (scalar.Int int.I64)) none = e in cc)

@@ -18,10 +18,10 @@ use Rattle.fut_sizes.specs.Functions.{value_name, stands_among, sizes_in, is_own
 use Rattle.fut_sizes.specs.Rules.{Each_hole, Pattern_takes, Telling, Takes, Sized}
 use Rattle.fut_sizes.specs.Scopes.{Scope, i64_size, names}
 use Rattle.fut_sizes.specs.Sizing.{part_names, all_part_names}
-use Rattle.fut_sizes.specs.Scoping.{is_number, Context, with_positions, with_pattern}
+use Rattle.fut_sizes.specs.Scoping.{Context, with_positions, with_pattern}
 use Rattle.fut_sizes.specs.Steps.{State}
 use Rattle.fut_sizes.specs.Suiting.{Each, Each_all, Scoped}
-use Rattle.sizes_meet_rules.specs.Known.{Known_names, Is_const, Elsewhere, Formed}
+use Rattle.sizes_meet_rules.specs.Known.{is_i64_size, Known_names, Is_const, Elsewhere, Formed}
 use Rattle.sizes_meet_rules.specs.Plain.{Plain_pattern, Plain_parts, Plain_patterns, Plain_head, Formed_type}
 use Rattle.sizes_meet_rules.proofs.Arrows.{Is_value, Headed, chosen_stands, value_is, bound_low, frame, frame_chosen, position, May_stand, arrow_back, arrow_scoped, binder, owned_here, standing_own}
 use Rattle.sizes_meet_rules.proofs.Binding.{Leaves, left_name}
@@ -186,9 +186,9 @@ module _ (N : Names) (types : Sub) (home : ℕ → ℕ) (K : Kinds) (places : Ki
 
       -- nothing in it is the value of a parameter that is no number
       abbrev No_value : Free → Type 0
-      No_value x = is_number (own p q) ≡ false → Is_value (value_name p) x → ⊥
+      No_value x = is_i64_size (own p q) ≡ false → Is_value (value_name p) x → ⊥
 
-      not_placed : (met : List Free) (mets : (x : Free) → stands_among met x ≡ true → Unknown_met In x) → is_number (own p q) ≡ false → (x : Free) → May_be met x × No_value x → (m : ℕ) → place met x ≡ Some m → m ≡ many → ⊥
+      not_placed : (met : List Free) (mets : (x : Free) → stands_among met x ≡ true → Unknown_met In x) → is_i64_size (own p q) ≡ false → (x : Free) → May_be met x × No_value x → (m : ℕ) → place met x ≡ Some m → m ≡ many → ⊥
       not_placed met mets e x w m z y = w.1 e (value_is N types home K places lo at hi q p plain In E l2 (omega (arith, l3)) bs (own p q) o.sizes (own_stands bs In p q o k) head met mets x w.0 (z ∙ ap Some y))
 
       arrow_formed : (met : List Free) (mets : (x : Free) → stands_among met x ≡ true → Unknown_met In x) (t : Size) → Each (Scoped (λ x. May_be met x × No_value x)) 0 t → Formed t → Formed (one_arrow met t)
@@ -353,7 +353,7 @@ module _ (N : Names) (types : Sub) (home : ℕ → ℕ) (K : Kinds) (places : Ki
       known_behind T fits h = known_with N types K places (With_head later In') Vars home (With_head bs In) Vars head_behind (λ v i. i) p q T plain fits (own p q) parts_there scope T h
           (record { sizes = each_scoped (λ x. stands (own p q) x ≡ true) (With_head later In') (λ x z. inl (inr (inl z))) (own p q) 0 (own_stands bs In p q o k); variables = hole_as (λ v. ⊥) Vars (λ v i. absurd i) (own p q) o.variables; formed = o.formed }) o.typed (λ x n. inl (inr (inr n)))
 
-      no_value_here : (x : Free) → is_number (own p q) ≡ false → In' x → Is_value (value_name p) x → ⊥
+      no_value_here : (x : Free) → is_i64_size (own p q) ≡ false → In' x → Is_value (value_name p) x → ⊥
       no_value_here x e i v = no_value N types home K places lo at hi q p plain In Vars E l0 l2 l2' (omega (arith, l3)) parts among bs (own p q) o.sizes (own_stands bs In p q o k) head x e i v
 
       met_no_value : (x : Free) (r : Option ℕ) → Met_in lo hi x → Is_value r x → ⊥

@@ -1,6 +1,6 @@
 -- Primitives that take data: their sized types have a form, name no sizes by themselves, and give what their parameters have.
-use Rattle.std.proofs.Common.{◌≡◌, ℕ, suc, ◌<◌, List, [], ◌∷◌, Bool, true, false, not, ◌||◌, ◌&&◌, cond, nat_eq, Some, None, refl, sym, ap, ◌∙◌, eq-eqb, eqb-true, ltb-true}
-use Rattle.std.specs.Prelude.{nat_lt}
+use Rattle.std.proofs.Common.{◌≡◌, ◌⊎◌, inl, inr, ℕ, suc, ◌<◌, ◌≤◌, List, [], ◌∷◌, Bool, true, false, not, ◌||◌, ◌&&◌, cond, nat_eq, Some, None, refl, sym, ap, ◌∙◌, subst, arith, eq-eqb, eqb-true, ltb-true}
+use Rattle.std.specs.Prelude.{nat_lt, min}
 use Rattle.fut_scalar.specs.declared.scalar.IntType.TheVariants as int
 use Rattle.fut_scalar.specs.declared.scalar.ScalarType.{ScalarType}
 use Rattle.fut_scalar.specs.declared.scalar.ScalarType.TheVariants as scalar
@@ -9,25 +9,29 @@ use Rattle.fut_flat.specs.declared.prim.Primitive.{Primitive}
 use Rattle.fut_flat.specs.declared.prim.Primitive.TheVariants as prim
 use Rattle.fut_types.specs.declared.Head.{Head}
 use Rattle.fut_types.specs.declared.Head.TheVariants as head
-use Rattle.fut_types.specs.Types.{Ty, Var, Made, none, more, Sub, applied, all_applied, scalar_ty, fun_ty}
+use Rattle.fut_types.specs.Types.{Ty, Var, Made, none, more, Sub, Kinds, rank, least, applied, all_applied, scalar_ty, fun_ty}
 use Rattle.fut_typing.specs.Primitives.{prim_type}
 use Rattle.sized_types.specs.Sizes.{Free, Dim, At, Bound, Variable, Inferred, Written, is_variable, Size, Hole, Open, Level, Built, Fun, Sizes, no_size, size_and, erased, all_erased, levels, all_levels}
 use Rattle.sized_types.specs.Standing.{has_hole, some_hole}
+use Rattle.fut_sizes.specs.Applications.{is_arrow}
+use Rattle.fut_sizes.specs.Functions.{is_slot}
 use Rattle.fut_sizes.specs.Primitives.{scalar_size, sized_type, prim_size, is_regular}
 use Rattle.fut_sizes.specs.Rules.{Each_hole, Each_holes, filled as with_types, all_filled as all_with_types}
 use Rattle.fut_sizes.specs.Scopes.{or_else, type_of, type_in, or_variable, instance, instances, used}
-use Rattle.fut_sizes.specs.Scoping.{is_number}
+use Rattle.fut_sizes.specs.Steps.{State}
 use Rattle.fut_sizes.specs.Suiting.{Each, Each_all, Scoped, Of_positions, Data, All_data}
-use Rattle.sizes_meet_rules.specs.Known.{Is_made, Formed, All_formed, Says}
-use Rattle.sizes_meet_rules.specs.Plain.{Flat_type, Takes_data, Is_constant}
-use Rattle.sizes_meet_rules.proofs.Chains.{Given, Takes_all, Has_arrows}
-use Rattle.sizes_meet_rules.proofs.Filling.{all_in, all_in_parts, cover, opened, given_types, Fine, fine_flat, Arrows}
-use Rattle.sizes_meet_rules.proofs.Flat_types.{flat, flat_each, flat_erased, flat_formed, flat_holes}
-use Rattle.sizes_meet_rules.proofs.Forming.{number_parts}
+use Rattle.sizes_meet_rules.specs.Known.{is_i64_size, Is_made, Formed, All_formed, Says}
+use Rattle.sizes_meet_rules.specs.Plain.{Is_constant}
+use Rattle.sizes_meet_rules.proofs.Applying.{no_arrow}
+use Rattle.sizes_meet_rules.proofs.Chains.{Given, Has_arrows, Widths, arrows_of}
+use Rattle.sizes_meet_rules.proofs.Filling.{function_holes, data_holes, lambda_holes, Data_fit, Is_inferred, Nice, Arrows}
+use Rattle.sizes_meet_rules.proofs.Fitting.{is_simple, is_wanted}
+use Rattle.sizes_meet_rules.proofs.Lambdas.{Waiting_fit, Data_given, All_data_given, One_given, Lambda_there, One_lambda}
 use Rattle.sizes_meet_rules.proofs.Meeting.{each_scoped}
 use Rattle.fut_sizes.proofs.Erasing.{primitive_erased}
 use Rattle.sizes_meet_rules.proofs.Replacing.{each_as, hole_as, holes_as}
 use Rattle.sizes_meet_rules.proofs.Naming.{or_first, or_later}
+use Rattle.sizes_meet_rules.proofs.Taking.{head_same}
 
 both_true : (a b : Bool) → a && b ≡ true → (a ≡ true) × (b ≡ true)
 both_true true b e = (refl, e)
@@ -87,6 +91,65 @@ framed_told : (j : ℕ) (d : Dim) → framed j d ≡ true → Scoped (λ x. ⊥)
 framed_told j (At d) e = let z : false ≡ true = e in cc
 framed_told j (Bound m i) e = ltb-true m j e
 
+unfoldable mutual
+  pub is_data : Size → Bool
+  is_data (Hole v) = true
+  is_data (Open n v u) = false
+  is_data (Level d t) = is_data t
+  is_data (Built h ts) = are_data ts
+  is_data (Fun k p r) = false
+
+  pub are_data : Sizes → Bool
+  are_data no_size = true
+  are_data (size_and t ts) = is_data t && are_data ts
+
+mutual
+  unfolding is_data are_data Data All_data
+
+  data_told : (t : Size) → is_data t ≡ true → Data t
+  data_told (Hole v) e = tt
+  data_told (Open n v u) e = let z : false ≡ true = e in cc
+  data_told (Level d t) e = data_told t e
+  data_told (Built h ts) e = all_data_told ts e
+  data_told (Fun k p r) e = let z : false ≡ true = e in cc
+
+  all_data_told : (ts : Sizes) → are_data ts ≡ true → All_data ts
+  all_data_told no_size e = tt
+  all_data_told (size_and t ts) e = let w = both_true (is_data t) (are_data ts) e in (data_told t w.0, all_data_told ts w.1)
+
+-- what takes data or functions, whose parameters are of these variables, and gives data
+unfoldable pub takes_args : (Variable → Bool) → Bool → Size → Bool
+takes_args q regular (Fun k p r) = (is_data p || (is_arrow p && is_wanted q (λ v. regular) p)) && takes_args q regular r
+takes_args q regular t = is_data t
+
+-- all variables are of these
+unfoldable mutual
+  each_hole_is : (Variable → Bool) → Size → Bool
+  each_hole_is q (Hole v) = q v
+  each_hole_is q (Open n v u) = false
+  each_hole_is q (Level d t) = each_hole_is q t
+  each_hole_is q (Built h ts) = all_holes_are q ts
+  each_hole_is q (Fun k p r) = each_hole_is q p && each_hole_is q r
+
+  all_holes_are : (Variable → Bool) → Sizes → Bool
+  all_holes_are q no_size = true
+  all_holes_are q (size_and t ts) = each_hole_is q t && all_holes_are q ts
+
+module _ (q : Variable → Bool) where
+  mutual
+    unfolding each_hole_is all_holes_are Each_hole Each_holes
+
+    holes_told : (t : Size) → each_hole_is q t ≡ true → Each_hole (λ v. q v ≡ true) t
+    holes_told (Hole v) e = e
+    holes_told (Open n v u) e = let z : false ≡ true = e in cc
+    holes_told (Level d t) e = holes_told t e
+    holes_told (Built h ts) e = all_holes_told ts e
+    holes_told (Fun k p r) e = let w = both_true (each_hole_is q p) (each_hole_is q r) e in (holes_told p w.0, holes_told r w.1)
+
+    all_holes_told : (ts : Sizes) → all_holes_are q ts ≡ true → Each_holes (λ v. q v ≡ true) ts
+    all_holes_told no_size e = tt
+    all_holes_told (size_and t ts) e = let w = both_true (each_hole_is q t) (all_holes_are q ts) e in (holes_told t w.0, all_holes_told ts w.1)
+
 abbrev makes : Head → Bool
 makes head.Array = false
 makes head.Fun = false
@@ -109,20 +172,16 @@ unfoldable mutual
   has_form (Open n v u) = false
   has_form (Level d t) = has_form t
   has_form (Built h ts) = makes h && have_form ts
-  has_form (Fun k p r) = has_form p && (has_form r && (each_is (chosen_there k) 1 p && (each_is (no_value_there k) 1 r || is_number p)))
+  has_form (Fun k p r) = has_form p && (has_form r && (each_is (chosen_there k) 1 p && (each_is (no_value_there k) 1 r || is_i64_size p)))
 
   have_form : Sizes → Bool
   have_form no_size = true
   have_form (size_and t ts) = has_form t && have_form ts
 
-abbrev pub Is_inferred : Variable → Type 0
-Is_inferred (Inferred v) = Unit {0}
-Is_inferred (Written b k) = ⊥
-
-value_or_number : (k : ℕ) (p r : Size) → each_is (no_value_there k) 1 r || is_number p ≡ true → is_number p ≡ false → Each (Of_positions (λ i. i ≡ k → ⊥)) 1 r
+value_or_number : (k : ℕ) (p r : Size) → each_is (no_value_there k) 1 r || is_i64_size p ≡ true → is_i64_size p ≡ false → Each (Of_positions (λ i. i ≡ k → ⊥)) 1 r
 value_or_number k p r e f = by_value (each_is (no_value_there k) 1 r) refl e
   where
-    by_value : (b : Bool) → each_is (no_value_there k) 1 r ≡ b → b || is_number p ≡ true → Each (Of_positions (λ i. i ≡ k → ⊥)) 1 r
+    by_value : (b : Bool) → each_is (no_value_there k) 1 r ≡ b → b || is_i64_size p ≡ true → Each (Of_positions (λ i. i ≡ k → ⊥)) 1 r
     by_value true g z = each_as (λ i d. no_value_there k i d ≡ true) (Of_positions (λ i. i ≡ k → ⊥)) (no_value_told k) r 1 (each_told (no_value_there k) r 1 g)
     by_value false g z = absurd (let w : false ≡ true = sym f ∙ z in cc)
 
@@ -136,9 +195,9 @@ mutual
   form_told (Level d t) e = form_told t e
   form_told (Built h ts) e = let w = both_true (makes h) (have_form ts) e in let r = forms_told ts w.1 in ((makes_told h w.0, r.0), r.1)
   form_told (Fun k p r) e =
-      let w = both_true (has_form p) (has_form r && (each_is (chosen_there k) 1 p && (each_is (no_value_there k) 1 r || is_number p))) e in
-      let x = both_true (has_form r) (each_is (chosen_there k) 1 p && (each_is (no_value_there k) 1 r || is_number p)) w.1 in
-      let y = both_true (each_is (chosen_there k) 1 p) (each_is (no_value_there k) 1 r || is_number p) x.1 in
+      let w = both_true (has_form p) (has_form r && (each_is (chosen_there k) 1 p && (each_is (no_value_there k) 1 r || is_i64_size p))) e in
+      let x = both_true (has_form r) (each_is (chosen_there k) 1 p && (each_is (no_value_there k) 1 r || is_i64_size p)) w.1 in
+      let y = both_true (each_is (chosen_there k) 1 p) (each_is (no_value_there k) 1 r || is_i64_size p) x.1 in
       let a = form_told p w.0 in
       let b = form_told r x.0 in
       ((a.0, b.0, each_as (λ i d. chosen_there k i d ≡ true) (Of_positions (λ i. i < k)) (chosen_told k) p 1 (each_told (chosen_there k) p 1 y.0), value_or_number k p r y.1), (a.1, b.1))
@@ -149,74 +208,77 @@ mutual
 
 -- ---- the primitives
 
-abbrev none_yet : Variable → Bool
-none_yet v = false
+-- the variables of parameters, data or not
+abbrev pub parameter_holes : Size → Variable → Bool
+parameter_holes t v = data_holes t v || lambda_holes t v
 
-abbrev is_fine : Size → Bool
-is_fine t = has_form t && (each_is framed 0 t && cover none_yet t)
+abbrev is_fine : Bool → Size → Bool
+is_fine regular t = has_form t && (each_is framed 0 t && (each_hole_is (parameter_holes t) t && takes_args (data_holes t) regular t))
 
-fine : (p : Primitive) → Takes_data p → is_fine (prim_size p) ≡ true
-unfolding prim_size sized_type levels all_levels has_form have_form each_is all_are cover all_in all_in_parts has_hole some_hole
-fine prim.Map i = absurd i
-fine prim.Map2 i = absurd i
-fine prim.Map3 i = absurd i
-fine prim.Map4 i = absurd i
-fine prim.Map5 i = absurd i
-fine prim.Reduce i = absurd i
-fine prim.ReduceComm i = absurd i
-fine prim.Scan i = absurd i
-fine prim.Filter i = absurd i
-fine prim.Partition i = absurd i
-fine prim.ReduceByIndex i = absurd i
-fine prim.Tabulate i = absurd i
-fine prim.Scatter i = refl
-fine prim.Zip i = refl
-fine prim.Zip3 i = refl
-fine prim.Unzip i = refl
-fine prim.Unzip3 i = refl
-fine prim.Iota i = refl
-fine prim.Replicate i = refl
-fine prim.Indices i = refl
-fine prim.Length i = refl
-fine prim.Null i = refl
-fine prim.Head i = refl
-fine prim.Last i = refl
-fine prim.Init i = refl
-fine prim.Tail i = refl
-fine prim.Take i = refl
-fine prim.Drop i = refl
-fine prim.Reverse i = refl
-fine prim.Rotate i = refl
-fine prim.Concat i = refl
-fine prim.Flatten i = refl
-fine prim.Unflatten i = refl
-fine prim.Transpose i = refl
-fine prim.Copy i = refl
-fine (prim.Convert to from) i = refl
-fine (prim.Min own) i = refl
-fine (prim.Max own) i = refl
-fine (prim.Abs own) i = refl
-fine (prim.Popc own) i = refl
-fine (prim.Lowest own) i = refl
-fine (prim.Highest own) i = refl
-fine (prim.NumBits own) i = refl
-fine (prim.Fold folding.Sum own) i = refl
-fine (prim.Fold folding.Product own) i = refl
-fine (prim.Fold folding.Minimum own) i = refl
-fine (prim.Fold folding.Maximum own) i = refl
+fine : (p : Primitive) → is_fine (is_regular p) (prim_size p) ≡ true
+unfolding prim_size sized_type levels all_levels has_form have_form each_is all_are each_hole_is all_holes_are data_holes lambda_holes function_holes has_hole some_hole takes_args is_wanted is_simple is_data are_data
+fine prim.Map = refl
+fine prim.Map2 = refl
+fine prim.Map3 = refl
+fine prim.Map4 = refl
+fine prim.Map5 = refl
+fine prim.Reduce = refl
+fine prim.ReduceComm = refl
+fine prim.Scan = refl
+fine prim.Filter = refl
+fine prim.Partition = refl
+fine prim.ReduceByIndex = refl
+fine prim.Tabulate = refl
+fine prim.Scatter = refl
+fine prim.Zip = refl
+fine prim.Zip3 = refl
+fine prim.Unzip = refl
+fine prim.Unzip3 = refl
+fine prim.Iota = refl
+fine prim.Replicate = refl
+fine prim.Indices = refl
+fine prim.Length = refl
+fine prim.Null = refl
+fine prim.Head = refl
+fine prim.Last = refl
+fine prim.Init = refl
+fine prim.Tail = refl
+fine prim.Take = refl
+fine prim.Drop = refl
+fine prim.Reverse = refl
+fine prim.Rotate = refl
+fine prim.Concat = refl
+fine prim.Flatten = refl
+fine prim.Unflatten = refl
+fine prim.Transpose = refl
+fine prim.Copy = refl
+fine (prim.Convert to from) = refl
+fine (prim.Min own) = refl
+fine (prim.Max own) = refl
+fine (prim.Abs own) = refl
+fine (prim.Popc own) = refl
+fine (prim.Lowest own) = refl
+fine (prim.Highest own) = refl
+fine (prim.NumBits own) = refl
+fine (prim.Fold folding.Sum own) = refl
+fine (prim.Fold folding.Product own) = refl
+fine (prim.Fold folding.Minimum own) = refl
+fine (prim.Fold folding.Maximum own) = refl
 
 pub record Prim_ok (p : Primitive) : Type 0 where
   pub formed : Formed (prim_size p)
   pub inferred : Each_hole Is_inferred (prim_size p)
   pub sizes : Each (Scoped (λ x. ⊥)) 0 (prim_size p)
-  pub covers : cover none_yet (prim_size p) ≡ true
+  pub covers : Each_hole (λ v. parameter_holes (prim_size p) v ≡ true) (prim_size p)
+  pub takes : takes_args (data_holes (prim_size p)) (is_regular p) (prim_size p) ≡ true
 
-pub prim_ok : (p : Primitive) → Takes_data p → Prim_ok p
-prim_ok p i =
-    let a = both_true (has_form (prim_size p)) (each_is framed 0 (prim_size p) && cover none_yet (prim_size p)) (fine p i) in
-    let b = both_true (each_is framed 0 (prim_size p)) (cover none_yet (prim_size p)) a.1 in
+pub prim_ok : (p : Primitive) → Prim_ok p
+prim_ok p =
+    let a = both_true (has_form (prim_size p)) (each_is framed 0 (prim_size p) && (each_hole_is (parameter_holes (prim_size p)) (prim_size p) && takes_args (data_holes (prim_size p)) (is_regular p) (prim_size p))) (fine p) in
+    let b = both_true (each_is framed 0 (prim_size p)) (each_hole_is (parameter_holes (prim_size p)) (prim_size p) && takes_args (data_holes (prim_size p)) (is_regular p) (prim_size p)) a.1 in
+    let c = both_true (each_hole_is (parameter_holes (prim_size p)) (prim_size p)) (takes_args (data_holes (prim_size p)) (is_regular p) (prim_size p)) b.1 in
     let f = form_told (prim_size p) a.0 in
-    record { formed = f.0; inferred = f.1; sizes = each_as (λ j d. framed j d ≡ true) (Scoped (λ x. ⊥)) framed_told (prim_size p) 0 (each_told framed (prim_size p) 0 b.0); covers = b.1 }
+    record { formed = f.0; inferred = f.1; sizes = each_as (λ j d. framed j d ≡ true) (Scoped (λ x. ⊥)) framed_told (prim_size p) 0 (each_told framed (prim_size p) 0 b.0); covers = holes_told (parameter_holes (prim_size p)) (prim_size p) c.0; takes = c.1 }
 
 -- ---- a use has the type that is given to the variables
 
@@ -293,157 +355,254 @@ module _ (n : ℕ) (types : Variable → Ty) where
     mutual
       unfolding instance instances erased all_erased Each_hole Each_holes applied all_applied
 
-      opened_typed : (t : Size) → Each_hole Is_inferred t → Each_hole (λ v. types v ≡ given_of g v) t → erased (opened n types t) ≡ applied g (erased t)
+      opened_typed : (t : Size) → Each_hole Is_inferred t → Each_hole (λ v. types v ≡ given_of g v) t → erased (instance n types t) ≡ applied g (erased t)
       opened_typed (Hole (Inferred v)) i h = h
       opened_typed (Hole (Written b k)) i h = absurd i
       opened_typed (Open m v u) i h = absurd h
       opened_typed (Level d t) i h = ap (λ x. Made head.Array (more x none)) (opened_typed t i h)
       opened_typed (Built k ts) i h = ap (Made k) (all_opened_typed ts i h)
-      opened_typed (Fun k p r) i h = ap (λ x. fun_ty x (erased (opened n types r))) (opened_typed p i.0 h.0) ∙ ap (fun_ty (applied g (erased p))) (opened_typed r i.1 h.1)
+      opened_typed (Fun k p r) i h = ap (λ x. fun_ty x (erased (instance n types r))) (opened_typed p i.0 h.0) ∙ ap (fun_ty (applied g (erased p))) (opened_typed r i.1 h.1)
 
       all_opened_typed : (ts : Sizes) → Each_holes Is_inferred ts → Each_holes (λ v. types v ≡ given_of g v) ts → all_erased (instances n types ts) ≡ all_applied g (all_erased ts)
       all_opened_typed no_size i h = refl
       all_opened_typed (size_and t ts) i h = ap (λ x. more x (all_erased (instances n types ts))) (opened_typed t i.0 h.0) ∙ ap (more (applied g (erased t))) (all_opened_typed ts i.1 h.1)
 
-  -- with its types
-  mutual
-    unfolding instance instances with_types all_with_types erased all_erased
+  -- with the sized types that its variables have
+  module _ (P : Free → Type 0) (settled : (d : Free) → P d → is_slot d ≡ false) (Vars : Variable → Type 0) (Θ : Variable → Size) where
+    abbrev Nice_there : Variable → Type 0
+    Nice_there v = Nice n types P settled Vars v (Θ v)
 
-    pub given_typed : (t : Size) → erased (given_types n types t) ≡ erased (opened n types t)
-    given_typed (Hole v) = flat_erased (types v)
-    given_typed (Open m v u) = refl
-    given_typed (Level d t) = ap (λ x. Made head.Array (more x none)) (given_typed t)
-    given_typed (Built k ts) = ap (Made k) (all_given_typed ts)
-    given_typed (Fun k p r) = ap (λ x. fun_ty x (erased (given_types n types r))) (given_typed p) ∙ ap (fun_ty (erased (opened n types p))) (given_typed r)
+    mutual
+      unfolding instance instances with_types all_with_types erased all_erased Each_hole Each_holes
 
-    all_given_typed : (ts : Sizes) → all_erased (all_with_types (λ v. flat (types v)) ts) ≡ all_erased (instances n types ts)
-    all_given_typed no_size = refl
-    all_given_typed (size_and t ts) = ap (λ x. more x (all_erased (all_with_types (λ v. flat (types v)) ts))) (given_typed t) ∙ ap (more (erased (opened n types t))) (all_given_typed ts)
+      given_typed : (t : Size) → Each_hole Nice_there t → erased (with_types Θ t) ≡ erased (instance n types t)
+      given_typed (Hole v) h = h.typed
+      given_typed (Open m v u) h = refl
+      given_typed (Level d t) h = ap (λ x. Made head.Array (more x none)) (given_typed t h)
+      given_typed (Built k ts) h = ap (Made k) (all_given_typed ts h)
+      given_typed (Fun k p r) h = ap (λ x. fun_ty x (erased (with_types Θ r))) (given_typed p h.0) ∙ ap (fun_ty (erased (instance n types p))) (given_typed r h.1)
 
-  mutual
-    unfolding with_types all_with_types Each Each_all
+      all_given_typed : (ts : Sizes) → Each_holes Nice_there ts → all_erased (all_with_types Θ ts) ≡ all_erased (instances n types ts)
+      all_given_typed no_size h = refl
+      all_given_typed (size_and t ts) h = ap (λ x. more x (all_erased (all_with_types Θ ts))) (given_typed t h.0) ∙ ap (more (erased (instance n types t))) (all_given_typed ts h.1)
 
-    given_each : (P : ℕ → Dim → Type 0) (t : Size) (j : ℕ) → Each P j t → Each P j (given_types n types t)
-    given_each P (Hole v) j h = flat_each P j (types v)
-    given_each P (Open m v u) j h = h
-    given_each P (Level d t) j h = (h.0, given_each P t j h.1)
-    given_each P (Built k ts) j h = all_given_each P ts j h
-    given_each P (Fun k p r) j h = (given_each P p (suc j) h.0, given_each P r (suc j) h.1)
+    module _ (Q : ℕ → Dim → Type 0) (alone : (j : ℕ) (x : Free) → P x → Q j (At x)) where
+      -- data has no size of a frame
+      mutual
+        unfolding Each Each_all Data All_data
 
-    all_given_each : (P : ℕ → Dim → Type 0) (ts : Sizes) (j : ℕ) → Each_all P j ts → Each_all P j (all_with_types (λ v. flat (types v)) ts)
-    all_given_each P no_size j h = tt
-    all_given_each P (size_and t ts) j h = (given_each P t j h.0, all_given_each P ts j h.1)
+        data_each : (t : Size) (j : ℕ) → Data t → Each (Scoped P) 0 t → Each Q j t
+        data_each (Hole v) j d h = tt
+        data_each (Open m v u) j d h = tt
+        data_each (Level (At x) t) j d h = (alone j x h.0, data_each t j d h.1)
+        data_each (Level (Bound k i) t) j d h = absurd (let l = h.0 in omega (arith, l))
+        data_each (Built k ts) j d h = all_data_each ts j d h
+        data_each (Fun k p r) j d h = absurd d
 
-  mutual
-    unfolding Each_hole Each_holes
+        all_data_each : (ts : Sizes) (j : ℕ) → All_data ts → Each_all (Scoped P) 0 ts → Each_all Q j ts
+        all_data_each no_size j d h = tt
+        all_data_each (size_and t ts) j d h = (data_each t j d.0 h.0, all_data_each ts j d.1 h.1)
 
-    fine_holes : (t : Size) → Each_hole Is_inferred t → Each_hole (λ v. Flat_type (types v)) t → Each_hole (Fine n types) t
-    fine_holes (Hole (Inferred v)) i h = h
-    fine_holes (Hole (Written b k)) i h = absurd i
-    fine_holes (Open m v u) i h = absurd h
-    fine_holes (Level d t) i h = fine_holes t i h
-    fine_holes (Built k ts) i h = all_fine_holes ts i h
-    fine_holes (Fun k p r) i h = (fine_holes p i.0 h.0, fine_holes r i.1 h.1)
+      mutual
+        unfolding with_types all_with_types Each Each_all Each_hole Each_holes
 
-    all_fine_holes : (ts : Sizes) → Each_holes Is_inferred ts → Each_holes (λ v. Flat_type (types v)) ts → Each_holes (Fine n types) ts
-    all_fine_holes no_size i h = tt
-    all_fine_holes (size_and t ts) i h = (fine_holes t i.0 h.0, all_fine_holes ts i.1 h.1)
+        given_each : (t : Size) (j : ℕ) → Each_hole Nice_there t → Each Q j t → Each Q j (with_types Θ t)
+        given_each (Hole v) j h e = data_each (Θ v) j h.is_data h.sizes
+        given_each (Open m v u) j h e = e
+        given_each (Level d t) j h e = (e.0, given_each t j h e.1)
+        given_each (Built k ts) j h e = all_given_each ts j h e
+        given_each (Fun k p r) j h e = (given_each p (suc j) h.0 e.0, given_each r (suc j) h.1 e.1)
 
-  mutual
-    unfolding with_types all_with_types Each_hole Each_holes
+        all_given_each : (ts : Sizes) (j : ℕ) → Each_holes Nice_there ts → Each_all Q j ts → Each_all Q j (all_with_types Θ ts)
+        all_given_each no_size j h e = tt
+        all_given_each (size_and t ts) j h e = (given_each t j h.0 e.0, all_given_each ts j h.1 e.1)
 
-    given_holes : (P : Variable → Type 0) (t : Size) → Each_hole (Fine n types) t → Each_hole P (given_types n types t)
-    given_holes P (Hole v) h = flat_holes P (types v) (fine_flat n types v h)
-    given_holes P (Open m v u) h = h
-    given_holes P (Level d t) h = given_holes P t h
-    given_holes P (Built k ts) h = all_given_holes P ts h
-    given_holes P (Fun k p r) h = (given_holes P p h.0, given_holes P r h.1)
+    mutual
+      unfolding with_types all_with_types Each_hole Each_holes
 
-    all_given_holes : (P : Variable → Type 0) (ts : Sizes) → Each_holes (Fine n types) ts → Each_holes P (all_with_types (λ v. flat (types v)) ts)
-    all_given_holes P no_size h = tt
-    all_given_holes P (size_and t ts) h = (given_holes P t h.0, all_given_holes P ts h.1)
+      given_holes : (t : Size) → Each_hole Nice_there t → Each_hole Vars (with_types Θ t)
+      given_holes (Hole v) h = h.variables
+      given_holes (Open m v u) h = h
+      given_holes (Level d t) h = given_holes t h
+      given_holes (Built k ts) h = all_given_holes ts h
+      given_holes (Fun k p r) h = (given_holes p h.0, given_holes r h.1)
 
-  no_number : (p : Size) → is_number (given_types n types p) ≡ false → is_number p ≡ false
-  unfolding with_types
-  no_number (Hole v) e = refl
-  no_number (Open m v u) e = refl
-  no_number (Level d t) e = refl
-  no_number (Built k ts) e = number_parts k ts (all_with_types (λ v. flat (types v)) ts) ∙ e
-  no_number (Fun k p r) e = refl
+      all_given_holes : (ts : Sizes) → Each_holes Nice_there ts → Each_holes Vars (all_with_types Θ ts)
+      all_given_holes no_size h = tt
+      all_given_holes (size_and t ts) h = (given_holes t h.0, all_given_holes ts h.1)
 
-  mutual
-    unfolding with_types all_with_types Each_hole Each_holes Formed All_formed
+    no_number : (p : Size) → is_i64_size (with_types Θ p) ≡ false → is_i64_size p ≡ false
+    unfolding with_types all_with_types
+    no_number (Hole v) e = refl
+    no_number (Open m v u) e = refl
+    no_number (Level d t) e = refl
+    no_number (Built k no_size) e = e
+    no_number (Built k (size_and t ts)) e = refl
+    no_number (Fun k p r) e = refl
 
-    given_formed : (t : Size) → Each_hole (Fine n types) t → Formed t → Formed (given_types n types t)
-    given_formed (Hole v) h f = flat_formed (types v) (fine_flat n types v h)
-    given_formed (Open m v u) h f = f
-    given_formed (Level d t) h f = given_formed t h f
-    given_formed (Built k ts) h f = (f.0, all_given_formed ts h f.1)
-    given_formed (Fun k p r) h f = (given_formed p h.0 f.0, given_formed r h.1 f.1, given_each (Of_positions (λ i. i < k)) p 1 f.2, λ e. given_each (Of_positions (λ i. i ≡ k → ⊥)) r 1 (f.3 (no_number p e)))
+    mutual
+      unfolding with_types all_with_types Each_hole Each_holes Formed All_formed
 
-    all_given_formed : (ts : Sizes) → Each_holes (Fine n types) ts → All_formed ts → All_formed (all_with_types (λ v. flat (types v)) ts)
-    all_given_formed no_size h f = tt
-    all_given_formed (size_and t ts) h f = (given_formed t h.0 f.0, all_given_formed ts h.1 f.1)
+      given_formed : (t : Size) → Each_hole Nice_there t → Formed t → Formed (with_types Θ t)
+      given_formed (Hole v) h f = h.formed
+      given_formed (Open m v u) h f = f
+      given_formed (Level d t) h f = given_formed t h f
+      given_formed (Built k ts) h f = (f.0, all_given_formed ts h f.1)
+      given_formed (Fun k p r) h f = (given_formed p h.0 f.0, given_formed r h.1 f.1, given_each (Of_positions (λ i. i < k)) (λ j x i. tt) p 1 h.0 f.2, λ e. given_each (Of_positions (λ i. i ≡ k → ⊥)) (λ j x i. tt) r 1 h.1 (f.3 (no_number p e)))
 
-  mutual
-    unfolding with_types all_with_types Data All_data
+      all_given_formed : (ts : Sizes) → Each_holes Nice_there ts → All_formed ts → All_formed (all_with_types Θ ts)
+      all_given_formed no_size h f = tt
+      all_given_formed (size_and t ts) h f = (given_formed t h.0 f.0, all_given_formed ts h.1 f.1)
 
-    given_data : (t : Size) → Data (given_types n types t) → Data t
-    given_data (Hole v) d = tt
-    given_data (Open m v u) d = d
-    given_data (Level e t) d = given_data t d
-    given_data (Built k ts) d = all_given_data ts d
-    given_data (Fun k p r) d = d
+  -- what takes arguments takes them whatever its variables stand for
+  module _ (P : Free → Type 0) (settled : (d : Free) → P d → is_slot d ≡ false) (Vars : Variable → Type 0) (K : Kinds) (g : Sub) (kinds : (m : ℕ) → 1 ≤ rank K (g m)) (sub : Sub) (q : Variable → Bool) (regular : Bool) where
+    no_function : (a b : Ty) → 1 ≤ rank K (fun_ty a b) → ⊥
+    unfolding rank least
+    no_function a b h = let z : 1 ≤ min 0 (min (rank K a) (min (rank K b) 4)) = h in omega (arith, z)
 
-    all_given_data : (ts : Sizes) → All_data (all_with_types (λ v. flat (types v)) ts) → All_data ts
-    all_given_data no_size d = tt
-    all_given_data (size_and t ts) d = (given_data t d.0, all_given_data ts d.1)
+    mutual
+      unfolding Each_hole Each_holes
 
-  -- what takes arguments takes them before its types are given
-  no_arrows : (g : Given) (gs : List Given) (u : Ty) → Flat_type u → Takes_all (g ∷ gs) (flat u) → ⊥
-  unfolding flat Flat_type
-  no_arrows g gs (Var x) f h = f
-  no_arrows g gs (Made k ts) f h = h
+      kinds_there : (t : Size) → Each_hole Is_inferred t → Each_hole (λ v. types v ≡ given_of g v) t → Each_hole (λ v. 1 ≤ rank K (types v)) t
+      kinds_there (Hole (Inferred v)) i o = subst (λ w. 1 ≤ rank K w) (sym o) (kinds v)
+      kinds_there (Hole (Written b k)) i o = absurd i
+      kinds_there (Open m v u) i o = absurd i
+      kinds_there (Level d t) i o = kinds_there t i o
+      kinds_there (Built h ts) i o = all_kinds_there ts i o
+      kinds_there (Fun k p r) i o = (kinds_there p i.0 o.0, kinds_there r i.1 o.1)
 
-  pub arrows_of_given : (gs : List Given) (t : Size) → Each_hole (Fine n types) t → Takes_all gs (given_types n types t) → Arrows n types gs t
-  unfolding with_types Each_hole
-  arrows_of_given [] t f h = given_data t h
-  arrows_of_given (g ∷ gs) (Fun k p r) f h = ((given_data p h.0.0, sym (given_typed p) ∙ h.0.1), arrows_of_given gs r f.1 h.1)
-  arrows_of_given (g ∷ gs) (Hole v) f h = absurd (no_arrows g gs (types v) (fine_flat n types v f) h)
-  arrows_of_given (g ∷ gs) (Open m v u) f h = absurd h
-  arrows_of_given (g ∷ gs) (Level d t) f h = absurd h
-  arrows_of_given (g ∷ gs) (Built k ts) f h = absurd h
+      all_kinds_there : (ts : Sizes) → Each_holes Is_inferred ts → Each_holes (λ v. types v ≡ given_of g v) ts → Each_holes (λ v. 1 ≤ rank K (types v)) ts
+      all_kinds_there no_size i o = tt
+      all_kinds_there (size_and t ts) i o = (kinds_there t i.0 o.0, all_kinds_there ts i.1 o.1)
 
-  pub arrows_opened : (gs : List Given) (t : Size) → Arrows n types gs t → Has_arrows gs (opened n types t)
+    one_of : (a b : Bool) → a || b ≡ true → (a ≡ true) ⊎ (b ≡ true)
+    one_of true b e = inl refl
+    one_of false b e = inr e
+
+    -- data is of no function type
+    data_typed : (p : Size) (a c : Ty) → Formed p → Each_hole Is_inferred p → is_data p ≡ true → applied g (erased p) ≡ fun_ty a c → ⊥
+    unfolding is_data Formed Each_hole erased applied all_applied
+    data_typed (Hole (Inferred v)) a c f i d e = no_function a c (subst (λ w. 1 ≤ rank K w) e (kinds v))
+    data_typed (Hole (Written b k)) a c f i d e = i
+    data_typed (Open m v u) a c f i d e = f
+    data_typed (Level l t) a c f i d e = let y : Made head.Array (more (applied g (erased t)) none) ≡ fun_ty a c = e in cc
+    data_typed (Built h ts) a c f i d e = subst Is_made (head_same e) f.0
+    data_typed (Fun k p r) a c f i d e = let z : false ≡ true = d in cc
+
+    -- and a function type is no data's
+    arrow_typed : (p : Size) → is_arrow p ≡ true → 1 ≤ rank K (applied g (erased p)) → ⊥
+    unfolding erased applied all_applied
+    arrow_typed (Fun k p r) e h = no_function (applied g (erased p)) (applied g (erased r)) h
+    arrow_typed (Hole v) e h = let z : false ≡ true = e in cc
+    arrow_typed (Open m v u) e h = let z : false ≡ true = e in cc
+    arrow_typed (Level d t) e h = let z : false ≡ true = e in cc
+    arrow_typed (Built h ts) e k = let z : false ≡ true = e in cc
+
+    result_data : (t : Size) (u : Ty) → Formed t → takes_args q regular t ≡ true → 1 ≤ rank K u → applied g (erased t) ≡ u → Data t × ((v : Variable) → lambda_holes t v ≡ false)
+    unfolding takes_args is_data Formed erased applied all_applied lambda_holes
+    result_data (Fun k p r) u f d k1 e = absurd (no_function (applied g (erased p)) (applied g (erased r)) (subst (λ w. 1 ≤ rank K w) (sym e) k1))
+    result_data (Hole v) u f d k1 e = (data_told (Hole v) d, λ x. refl)
+    result_data (Open m v x) u f d k1 e = absurd f
+    result_data (Level l t) u f d k1 e = (data_told (Level l t) d, λ x. refl)
+    result_data (Built h ts) u f d k1 e = (data_told (Built h ts) d, λ x. refl)
+
+    data_parameter : (p : Size) (x : Given) → is_data p || (is_arrow p && is_wanted q (λ v. regular) p) ≡ true → Each_hole Is_inferred p → Each_hole (λ v. types v ≡ given_of g v) p → applied g (erased p) ≡ sub x.node → Data_given P Vars K sub x → (Data p × (erased (instance n types p) ≡ erased x.size)) × Data_fit P Vars x
+    data_parameter p x w i o e D = by_kind (one_of (is_data p) (is_arrow p && is_wanted q (λ v. regular) p) w)
+      where
+        by_kind : (is_data p ≡ true) ⊎ (is_arrow p && is_wanted q (λ v. regular) p ≡ true) → (Data p × (erased (instance n types p) ≡ erased x.size)) × Data_fit P Vars x
+        by_kind (inl d) = ((data_told p d, opened_typed g p i o ∙ e ∙ sym D.1.0), D.0.0)
+        by_kind (inr a) = absurd (arrow_typed p (both_true (is_arrow p) (is_wanted q (λ v. regular) p) a).0 (subst (λ w. 1 ≤ rank K w) (sym e) D.1.1))
+
+    data_arrows : (gs : List Given) (t : Size) (u : Ty) → Formed t → Each_hole Is_inferred t → takes_args q regular t ≡ true → Each_hole (λ v. types v ≡ given_of g v) t → 1 ≤ rank K u → applied g (erased t) ≡ arrows_of sub gs u → All_data_given P Vars K sub gs → Arrows n types P settled Vars gs t × ((v : Variable) → lambda_holes t v ≡ false)
+    unfolding takes_args Formed Each_hole erased applied all_applied lambda_holes
+    data_arrows [] t u f i d o k1 e D = result_data t u f d k1 e
+    data_arrows (x ∷ gs) (Fun k p r) u f i d o k1 e D =
+        let w = both_true (is_data p || (is_arrow p && is_wanted q (λ v. regular) p)) (takes_args q regular r) d in
+        let y : fun_ty (applied g (erased p)) (applied g (erased r)) ≡ fun_ty (sub x.node) (arrows_of sub gs u) = e in
+        let A = data_parameter p x w.0 i.0 o.0 (let z : applied g (erased p) ≡ sub x.node = cc in z) D.0 in
+        let R = data_arrows gs r u f.1 i.1 w.1 o.1 k1 (let z : applied g (erased r) ≡ arrows_of sub gs u = cc in z) D.1 in
+        ((inl A, R.0), λ v. ap (λ b. (b && function_holes p v) || lambda_holes r v) (no_arrow p A.0.0) ∙ R.1 v)
+    data_arrows (x ∷ gs) (Hole (Inferred v)) u f i d o k1 e D = absurd (no_function (sub x.node) (arrows_of sub gs u) (subst (λ w. 1 ≤ rank K w) e (kinds v)))
+    data_arrows (x ∷ gs) (Hole (Written b k)) u f i d o k1 e D = absurd i
+    data_arrows (x ∷ gs) (Open m v y) u f i d o k1 e D = absurd f
+    data_arrows (x ∷ gs) (Level l t) u f i d o k1 e D = absurd (let y : Made head.Array (more (applied g (erased t)) none) ≡ fun_ty (sub x.node) (arrows_of sub gs u) = e in cc)
+    data_arrows (x ∷ gs) (Built h ts) u f i d o k1 e D = absurd (subst Is_made (head_same e) f.0)
+
+    module _ (Went : Type 0) (st after : State) (lo : ℕ) where
+      abbrev There : Given → Size → Type 0
+      There x p = Lambda_there n types P settled Vars K sub Went st after lo q regular x p
+
+      lambda_parameter : (p : Size) (x : Given) → Formed p → is_data p || (is_arrow p && is_wanted q (λ v. regular) p) ≡ true → Each_hole Is_inferred p → Each_hole (λ v. types v ≡ given_of g v) p → applied g (erased p) ≡ sub x.node → (F : Waiting_fit P Vars K Went st after x) → F.type ≡ sub x.node → (a c : Ty) → F.type ≡ fun_ty a c → There x p
+      lambda_parameter p x f w i o e F same a c is = by_kind (one_of (is_data p) (is_arrow p && is_wanted q (λ v. regular) p) w)
+        where
+          by_kind : (is_data p ≡ true) ⊎ (is_arrow p && is_wanted q (λ v. regular) p ≡ true) → There x p
+          by_kind (inl d) = absurd (data_typed p a c f i d (e ∙ sym same ∙ is))
+          by_kind (inr b) =
+              let y = both_true (is_arrow p) (is_wanted q (λ v. regular) p) b in
+              record { fit = F; wanted = y.1; arrow = y.0; inferred = i; kinds = kinds_there p i o; typed = opened_typed g p i o ∙ e ∙ sym same }
+
+      lambda_arrows : (gs : List Given) (t : Size) (u : Ty) → Formed t → Each_hole Is_inferred t → takes_args q regular t ≡ true → Each_hole (λ v. types v ≡ given_of g v) t → 1 ≤ rank K u → applied g (erased t) ≡ arrows_of sub gs u → One_given P Vars K sub Went st after gs → Arrows n types P settled Vars gs t × One_lambda n types P settled Vars K sub Went st after lo q regular gs t
+      unfolding takes_args Formed Each_hole erased applied all_applied
+      lambda_arrows [] t u f i d o k1 e D = absurd D
+      lambda_arrows (x ∷ gs) (Fun k p r) u f i d o k1 e (inl D) =
+          let w = both_true (is_data p || (is_arrow p && is_wanted q (λ v. regular) p)) (takes_args q regular r) d in
+          let y : fun_ty (applied g (erased p)) (applied g (erased r)) ≡ fun_ty (sub x.node) (arrows_of sub gs u) = e in
+          let A = data_parameter p x w.0 i.0 o.0 (let z : applied g (erased p) ≡ sub x.node = cc in z) D.0 in
+          let R = lambda_arrows gs r u f.1 i.1 w.1 o.1 k1 (let z : applied g (erased r) ≡ arrows_of sub gs u = cc in z) D.1 in
+          ((inl A, R.0), inl (D.0, no_arrow p A.0.0, R.1))
+      lambda_arrows (x ∷ gs) (Fun k p r) u f i d o k1 e (inr D) =
+          let w = both_true (is_data p || (is_arrow p && is_wanted q (λ v. regular) p)) (takes_args q regular r) d in
+          let y : fun_ty (applied g (erased p)) (applied g (erased r)) ≡ fun_ty (sub x.node) (arrows_of sub gs u) = e in
+          let L = lambda_parameter p x f.0 w.0 i.0 o.0 (let z : applied g (erased p) ≡ sub x.node = cc in z) D.0.0 D.0.1 D.0.2.0 D.0.2.1.0 D.0.2.1.1 in
+          let R = data_arrows gs r u f.1 i.1 w.1 o.1 k1 (let z : applied g (erased r) ≡ arrows_of sub gs u = cc in z) D.1 in
+          ((inr (D.0.0.given.is_fun, L.arrow), R.0), inr (L, D.1, R.1))
+      lambda_arrows (x ∷ gs) (Hole (Inferred v)) u f i d o k1 e D = absurd (no_function (sub x.node) (arrows_of sub gs u) (subst (λ w. 1 ≤ rank K w) e (kinds v)))
+      lambda_arrows (x ∷ gs) (Hole (Written b k)) u f i d o k1 e D = absurd i
+      lambda_arrows (x ∷ gs) (Open m v y) u f i d o k1 e D = absurd f
+      lambda_arrows (x ∷ gs) (Level l t) u f i d o k1 e D = absurd (let y : Made head.Array (more (applied g (erased t)) none) ≡ fun_ty (sub x.node) (arrows_of sub gs u) = e in cc)
+      lambda_arrows (x ∷ gs) (Built h ts) u f i d o k1 e D = absurd (subst Is_made (head_same e) f.0)
+
+  arrows_opened : (P : Free → Type 0) (settled : (d : Free) → P d → is_slot d ≡ false) (Vars : Variable → Type 0) (gs : List Given) (t : Size) → Arrows n types P settled Vars gs t → Widths gs (instance n types t) → Has_arrows gs (instance n types t)
   unfolding instance
-  arrows_opened [] t a = tt
-  arrows_opened (g ∷ gs) (Fun k p r) a = arrows_opened gs r a.1
-  arrows_opened (g ∷ gs) (Hole v) a = absurd a
-  arrows_opened (g ∷ gs) (Open m v u) a = absurd a
-  arrows_opened (g ∷ gs) (Level d t) a = absurd a
-  arrows_opened (g ∷ gs) (Built k ts) a = absurd a
+  arrows_opened P settled Vars [] t a w = tt
+  arrows_opened P settled Vars (g ∷ gs) (Fun k p r) a w = (w.0, arrows_opened P settled Vars gs r a.1 w.1)
+  arrows_opened P settled Vars (g ∷ gs) (Hole v) a w = absurd a
+  arrows_opened P settled Vars (g ∷ gs) (Open m v u) a w = absurd a
+  arrows_opened P settled Vars (g ∷ gs) (Level d t) a w = absurd a
+  arrows_opened P settled Vars (g ∷ gs) (Built k ts) a w = absurd a
 
 -- ---- a use of a primitive
 
-module _ (n : ℕ) (p : Primitive) (u : Ty) (takes : Takes_data p) (flat_there : Each_hole (λ v. Flat_type (or_variable v (type_of v (prim_size p) u))) (prim_size p)) where
+module _ (n : ℕ) (p : Primitive) (u : Ty) (g : Sub) (typed : u ≡ applied g (prim_type p)) where
   abbrev pub types_there : Variable → Ty
   types_there v = or_variable v (type_of v (prim_size p) u)
 
-  pub holes_fine : Each_hole (Fine n types_there) (prim_size p)
-  holes_fine = fine_holes n types_there (prim_size p) (prim_ok p takes).inferred flat_there
-
-  pub prim_typed : (g : Sub) → u ≡ applied g (prim_type p) → erased (given_types n types_there (prim_size p)) ≡ u
-  prim_typed g e = given_typed n types_there (prim_size p) ∙ opened_typed n types_there g (prim_size p) (prim_ok p takes).inferred (hole_as (λ v. occurs v (prim_size p) ≡ true) (λ v. types_there v ≡ given_of g v) there (prim_size p) (own_occurs (prim_size p) (prim_ok p takes).inferred)) ∙ ap (applied g) (primitive_erased p) ∙ sym e
+  types_given : Each_hole (λ v. types_there v ≡ given_of g v) (prim_size p)
+  types_given = hole_as (λ v. occurs v (prim_size p) ≡ true) (λ v. types_there v ≡ given_of g v) there (prim_size p) (own_occurs (prim_size p) (prim_ok p).inferred)
     where
       there : (v : Variable) → occurs v (prim_size p) ≡ true → types_there v ≡ given_of g v
-      there v o = ap (λ w. or_variable v (type_of v (prim_size p) w)) (e ∙ ap (applied g) (sym (primitive_erased p))) ∙ ap (or_variable v) (type_told g v (prim_size p) (prim_ok p takes).inferred ∙ ap (λ b. cond b (Some (given_of g v)) None) o)
+      there v o = ap (λ w. or_variable v (type_of v (prim_size p) w)) (typed ∙ ap (applied g) (sym (primitive_erased p))) ∙ ap (or_variable v) (type_told g v (prim_size p) (prim_ok p).inferred ∙ ap (λ b. cond b (Some (given_of g v)) None) o)
 
-  pub prim_says : (In : Free → Type 0) (Vars : Variable → Type 0) → Says In Vars (given_types n types_there (prim_size p))
-  prim_says In Vars = record {
-    sizes = given_each n types_there (Scoped In) (prim_size p) 0 (each_scoped (λ x. ⊥) In (λ x z. absurd z) (prim_size p) 0 (prim_ok p takes).sizes);
-    variables = given_holes n types_there Vars (prim_size p) holes_fine;
-    formed = given_formed n types_there (prim_size p) holes_fine (prim_ok p takes).formed;
-  }
+  module _ (P : Free → Type 0) (settled : (d : Free) → P d → is_slot d ≡ false) (Vars : Variable → Type 0) where
+    module _ (K : Kinds) (kinds : (m : ℕ) → 1 ≤ rank K (g m)) (sub : Sub) (gs : List Given) (w : Ty) (data_kind : 1 ≤ rank K w) (arrows : u ≡ arrows_of sub gs w) where
+      pub prim_data : All_data_given P Vars K sub gs → Arrows n types_there P settled Vars gs (prim_size p) × ((v : Variable) → lambda_holes (prim_size p) v ≡ false)
+      prim_data D = data_arrows n types_there P settled Vars K g kinds sub (data_holes (prim_size p)) (is_regular p) gs (prim_size p) w (prim_ok p).formed (prim_ok p).inferred (prim_ok p).takes types_given data_kind (ap (applied g) (primitive_erased p) ∙ sym typed ∙ arrows) D
+
+      pub prim_lambda : (Went : Type 0) (st after : State) (lo : ℕ) → One_given P Vars K sub Went st after gs → Arrows n types_there P settled Vars gs (prim_size p) × One_lambda n types_there P settled Vars K sub Went st after lo (data_holes (prim_size p)) (is_regular p) gs (prim_size p)
+      prim_lambda Went st after lo D = lambda_arrows n types_there P settled Vars K g kinds sub (data_holes (prim_size p)) (is_regular p) Went st after lo gs (prim_size p) w (prim_ok p).formed (prim_ok p).inferred (prim_ok p).takes types_given data_kind (ap (applied g) (primitive_erased p) ∙ sym typed ∙ arrows) D
+
+    pub prim_widths : (gs : List Given) → Arrows n types_there P settled Vars gs (prim_size p) → Widths gs (instance n types_there (prim_size p)) → Has_arrows gs (instance n types_there (prim_size p))
+    prim_widths gs a w = arrows_opened n types_there P settled Vars gs (prim_size p) a w
+
+    pub prim_typed : (Θ : Variable → Size) → Each_hole (λ v. Nice n types_there P settled Vars v (Θ v)) (prim_size p) → erased (with_types Θ (prim_size p)) ≡ u
+    prim_typed Θ h = given_typed n types_there P settled Vars Θ (prim_size p) h ∙ opened_typed n types_there g (prim_size p) (prim_ok p).inferred types_given ∙ ap (applied g) (primitive_erased p) ∙ sym typed
+
+    pub prim_says : (Θ : Variable → Size) → Each_hole (λ v. Nice n types_there P settled Vars v (Θ v)) (prim_size p) → Says P Vars (with_types Θ (prim_size p))
+    prim_says Θ h = record {
+      sizes = given_each n types_there P settled Vars Θ (Scoped P) (λ j x i. i) (prim_size p) 0 h (each_scoped (λ x. ⊥) P (λ x z. absurd z) (prim_size p) 0 (prim_ok p).sizes);
+      variables = given_holes n types_there P settled Vars Θ (prim_size p) h;
+      formed = given_formed n types_there P settled Vars Θ (prim_size p) h (prim_ok p).formed;
+    }
 
 -- ---- a primitive that is a number
 

@@ -57,7 +57,7 @@ module _ (N : Names) (types : Sub) (home : ℕ → ℕ) (K : Kinds) (places : Ki
 -- written sizes are names of numbers in scope
 module _ (N : Names) (types : Sub) (home : ℕ → ℕ) (K : Kinds) (places : Kind) (In In' : Free → Type 0) (Vars : Variable → Type 0) (wider : (d : Free) → In d → In' d) where
   size_written : (x : Size_term Ref BindId) (scope : Scope) (T : TypeScope) → Known_names In Vars home scope K types T → IsSize T K types x → Size_written In' x
-  size_written (Size_use (ref.Bound b)) scope T known d = let w = known b.0 i64_ty d in wider (Name b.0) (w.number (number_is w.size w.says.formed (number_name In Vars types home scope b.0 w).1))
+  size_written (Size_use (ref.Bound b)) scope T known d = let w = known b.0 i64_ty d in wider (Name b.0) (w.number (number_is w.size w.says.formed (number_name In Vars types home scope b.0 w)))
   size_written x scope T known d = tt
 
   mutual

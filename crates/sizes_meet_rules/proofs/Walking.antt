@@ -1,5 +1,5 @@
 -- Each term of these forms meets the rules where it is sized.
-use Rattle.std.proofs.Common.{◌≡◌, ◌⊎◌, ℕ, suc, ◌+◌, ◌<◌, ◌≤◌, List, [], Bool, true, false, Option, Ok, refl, sym, ap, ◌∙◌, subst, arith, inl, inr}
+use Rattle.std.proofs.Common.{◌≡◌, ◌⊎◌, ℕ, suc, ◌+◌, ◌<◌, ◌≤◌, List, [], Bool, true, false, Ok, refl, sym, ap, ◌∙◌, subst, arith, inl, inr}
 use Rattle.fut_scalar.specs.declared.place.BindId.{BindId}
 use Rattle.fut_scalar.specs.declared.place.Place.{Place}
 use Rattle.fut_flat.specs.declared.prim.Primitive.{Primitive}
@@ -9,7 +9,7 @@ use Rattle.fut_flat.specs.Numbers.{pattern_numbers, all_pattern_numbers, own_num
 use Rattle.fut_flat.specs.Terms.{Size_term, Size_use, Array_type, Unique_type, Tuple_type, Record_type, Type_terms, no_type, type_and, Coerce, Declared, Patterns, no_pattern, pattern_and, Operation, Binary, Project, Use, Strict, Lambda, Apply, Let, If, Loop, Terms, no_term, term_and, Counted, Over, While}
 use Rattle.fut_flat.specs.Erased.{FlatTerm, FlatType, FlatTurns, FlatPattern}
 use Rattle.fut_types.specs.declared.Kind.{Kind}
-use Rattle.fut_types.specs.Types.{more, Sub, Kinds, HasKind, rank, level, applied}
+use Rattle.fut_types.specs.Types.{Ty, fun_ty, more, Sub, Kinds, HasKind, rank, level, applied}
 use Rattle.fut_typing.specs.Names.{Names}
 use Rattle.fut_typing.specs.Patterns.{pattern_types, arrows, with_patterns as all_typed_with}
 use Rattle.fut_typing.specs.Scopes.{Scope as TypeScope, the_one}
@@ -18,32 +18,33 @@ use Rattle.fut_typing.specs.Rules.{Rule, Written}
 use Rattle.fut_typing.specs.Typing.{operand, term_types, Typed, All_typed}
 use Rattle.sized_types.specs.Sizes.{Free, Const, Name, Own, Unknown, Slot, Variable, Size, Sizes, no_size, size_and, erased, all_erased, levels}
 use Rattle.fut_sizes.specs.Agreeing.{is_among, Answer, kept}
-use Rattle.fut_sizes.specs.Applications.{Want, Met, Part, Applied, whole}
+use Rattle.fut_sizes.specs.Applications.{Met, Part, Applied, whole}
 use Rattle.fut_sizes.specs.Operations.{operation}
 use Rattle.fut_sizes.specs.Primitives.{scalar_size, prim_size}
 use Rattle.fut_sizes.specs.Rules.{Filled_use, Size_found, Sizes_found, All_sizes_found, Compared_found, Outside, Takes, Away, part_sizes, Branches, Sized, All_sized}
 use Rattle.fut_sizes.specs.Scopes.{Scope, used}
 use Rattle.fut_sizes.specs.Scoping.{Context}
-use Rattle.fut_sizes.specs.Sizing.{finished, second_noted, with_head, wanted_size, all_part_names, leaving_function, all_entered, none_left, matched, parameters_noted, sized, all_sized, turns_sized, turns_from}
-use Rattle.fut_sizes.specs.Steps.{State, Done, Step, ask, and_then, note}
+use Rattle.fut_sizes.specs.Sizing.{finished, second_noted, with_head, all_part_names, sized, all_sized, turns_sized, turns_from}
+use Rattle.fut_sizes.specs.Steps.{State, Done, ask}
 use Rattle.fut_sizes.specs.Suiting.{Each, Scoped, Data}
 use Rattle.sizes_meet_rules.specs.Known.{Says, Is_const, Known_name, Known_names, Judged, Elsewhere}
 use Rattle.sizes_meet_rules.specs.Plain.{Plain_head, Plain_operation, Plain_term, Plain_terms}
 use Rattle.sizes_meet_rules.proofs.Replacing.{all_each_as}
 use Rattle.sizes_meet_rules.proofs.Forming.{data_of, erased_kept, formed_kept, variables_kept, sizes_kept}
-use Rattle.sizes_meet_rules.proofs.Meeting.{then_ok, asked, same_ok, at_itself, at_another, Met_in, With_met, each_scoped, met_wider, met_outside, says_more, scoped_as, elsewhere_narrower, away_of, Inner, Meets, Part_meets}
+use Rattle.sizes_meet_rules.proofs.Meeting.{then_ok, asked, same_ok, at_itself, at_another, Met_in, With_met, each_scoped, met_wider, met_outside, says_more, scoped_as, elsewhere_narrower, away_of, Inner, Meets, Chooses_none, Part_meets}
 use Rattle.sizes_meet_rules.proofs.Showing.{own_some, numbers_some, Law_of, alone, sizes_written}
 use Rattle.sizes_meet_rules.proofs.Letting.{Law_headed, any_let}
 use Rattle.sizes_meet_rules.proofs.Looping.{Law_turns, scalar_says, Loop_ran, Loop_meets, loop_meets}
 use Rattle.sizes_meet_rules.proofs.Binding.{leaves}
 use Rattle.sizes_meet_rules.proofs.Entering.{takings, all_bound, own_nodes_as, Lambda_ran, lambda_ran}
 use Rattle.sizes_meet_rules.proofs.Primitives.{Constant, constant_is, constant_used, constant_typed, constant_applied}
-use Rattle.sizes_meet_rules.proofs.Spines.{Spine_law, use_spine, primitive_spine, apply_spine, apply_part}
+use Rattle.sizes_meet_rules.proofs.Applied.{apply_part}
+use Rattle.sizes_meet_rules.proofs.Spines.{Spine_law, use_spine, primitive_spine, apply_spine}
 use Rattle.sizes_meet_rules.proofs.Parameters.{Rest, all_rest}
+use Rattle.sizes_meet_rules.proofs.Wanting.{lambda_waits, as_alone, function_none}
 use Rattle.sizes_meet_rules.proofs.Heading.{headless, heads_there, judged_headed, known_headless}
 use Rattle.sizes_meet_rules.proofs.Functions.{Unmet, met_between}
-use Rattle.fut_sizes.specs.Functions.{function_size, unchosen}
-use Rattle.fut_sizes.specs.Matching.{Found}
+use Rattle.fut_sizes.specs.Functions.{function_size}
 use Rattle.sizes_meet_rules.proofs.Naming.{With_head, no_function, number_name}
 use Rattle.sizes_meet_rules.proofs.Using.{use_is, use_rules, used_itself}
 use Rattle.sizes_meet_rules.proofs.Settling.{noted}
@@ -297,7 +298,11 @@ module _ (N : Names) (types : Sub) (home : ℕ → ℕ) (K : Kinds) (places : Ki
       -- a number is not general
       by_form : n.is_general ≡ true → (types lo ≡ types (home b.0)) ⊎ (types lo ≡ i64_ty) → types lo ≡ types (home b.0)
       by_form g (inl e) = e
-      by_form g (inr e) = let w = n.function g in absurd (no_function w.0 w.1 (sym e ∙ w.2))
+      by_form g (inr e) = by_kind (n.function g)
+        where
+          by_kind : ((p : Ty) × (r : Ty) × (types lo ≡ fun_ty p r)) ⊎ (types (home b.0) ≡ i64_ty) → types lo ≡ types (home b.0)
+          by_kind (inl w) = absurd (no_function w.0 w.1 (sym e ∙ w.2))
+          by_kind (inr h) = e ∙ sym h
 
       now : ◌≡◌ {A = Answer (Done Part)} (Ok (record { result = whole n.size; state = st })) (Ok d)
       now = ap (λ (o : Size). Ok (record { result = whole o; state = st })) (sym (use_is N types home In Vars scope b (types lo) n lo)) ∙ q
@@ -374,7 +379,7 @@ module _ (N : Names) (types : Sub) (home : ℕ → ℕ) (K : Kinds) (places : Ki
 
   -- a part that is the name of a number may be a size
   part_named : (e : FlatTerm) (n : ℕ) (In : Free → Type 0) (Vars : Variable → Type 0) (scope : Scope) (T : TypeScope) (lo hi : ℕ) → Known_names In Vars home scope K types T → Typed N places e n T K types → Size_named N types K places (With_met In lo hi) Vars (λ c. inr tt) e n
-  part_named (Use (ref.Bound b) at k) n In Vars scope T lo hi known t = λ z. let w = subst (λ u. Known_name In Vars types home scope b.0 u) z (known b.0 (types n) t) in inl (w.number (number_is w.size w.says.formed (number_name In Vars types home scope b.0 w).1))
+  part_named (Use (ref.Bound b) at k) n In Vars scope T lo hi known t = λ z. let w = subst (λ u. Known_name In Vars types home scope b.0 u) z (known b.0 (types n) t) in inl (w.number (number_is w.size w.says.formed (number_name In Vars types home scope b.0 w)))
   part_named e n In Vars scope T lo hi known t = tt
 
   parts_named : (ts : Terms Ref BindId) (n : ℕ) (In : Free → Type 0) (Vars : Variable → Type 0) (scope : Scope) (T : TypeScope) (lo hi : ℕ) → Known_names In Vars home scope K types T → All_typed N places ts n T K types → Sizes_named N types K places (With_met In lo hi) Vars (λ c. inr tt) ts n
@@ -407,11 +412,6 @@ module _ (N : Names) (types : Sub) (home : ℕ → ℕ) (K : Kinds) (places : Ki
       })
 
   -- ---- functions
-
-  abbrev lambda_waits : List ℕ → Patterns Ref BindId → FlatTerm → ℕ → Scope → Option Want → Found → Step Met
-  lambda_waits bs ps e lo scope w σ = and_then (ask (all_entered N types lo ps (1 + lo) (record { scope = scope; parameters = []; wanted = wanted_size w; found = σ }))) (λ E. and_then (ask (none_left N types (1 + lo + all_pattern_numbers ps) (unchosen bs E.parameters))) (λ z. and_then (parameters_noted N types E.parameters) (λ y.
-      and_then (sized N types e [] (1 + lo + all_pattern_numbers ps) E.scope) (λ part. and_then (finished N types (1 + lo + all_pattern_numbers ps) part) (λ body. and_then (ask (leaving_function lo (all_part_names ps) E.parameters body)) (λ r.
-      and_then (note lo (function_size bs lo (1 + lo + all_pattern_numbers ps + numbers e) E.parameters r)) (λ own. ask (matched N types lo w own E.found))))))))
 
   module _ (bs : List ℕ) (p : FlatPattern) (ps : Patterns Ref BindId) (e : FlatTerm) (le : Law e) (In : Free → Type 0) (Vars : Variable → Type 0) (scope : Scope) (T : TypeScope) (lo : ℕ) (hd : Plain_head types home K places N bs (pattern_and p ps) (1 + lo)) (pl : Plain_term types home K places N (Lambda (pattern_and p ps) e) lo) (t : Typed N places (Lambda (pattern_and p ps) e) lo T K types)
       (known : Known_names (With_head bs In) Vars home (with_head N types bs scope) K types T) (at hi : ℕ) (m1 : 1 + lo + all_pattern_numbers (pattern_and p ps) ≡ at) (m2 : at + numbers e ≡ hi) (E : Elsewhere N types home lo hi In) (before : State) (m : Done Met) (R : Lambda_ran N types home K places bs (pattern_and p ps) e lo at hi (with_head N types bs scope) before m) where
@@ -492,15 +492,19 @@ module _ (N : Names) (types : Sub) (home : ℕ → ℕ) (K : Kinds) (places : Ki
   lambda_headed : (p : FlatPattern) (ps : Patterns Ref BindId) (e : FlatTerm) → Law e → Law_headed N types home K places data_places (Lambda (pattern_and p ps) e)
   unfolding sized
   lambda_headed p ps e le bs In Vars scope T lo st d i hd pl t known E q = record {
-    waiting = lambda_waits bs (pattern_and p ps) e lo (with_head N types bs scope);
+    waiting = lambda_waits N types home K places bs (pattern_and p ps) e lo (with_head N types bs scope);
     is_waiting = ap (λ (x : Done Part). x.result) (sym (same_ok q));
     unchanged = ap (λ (x : Done Part). x.state) (sym (same_ok q));
     known_sizes = λ before m z. lambda_knows bs p ps e le In Vars scope T lo hd pl t known (1 + lo + all_pattern_numbers (pattern_and p ps)) (1 + lo + all_pattern_numbers (pattern_and p ps) + numbers e) refl refl (subst (λ n. Elsewhere N types home lo n In) last E) before m
         (lambda_ran N types home K places bs (pattern_and p ps) e lo (1 + lo + all_pattern_numbers (pattern_and p ps)) (1 + lo + all_pattern_numbers (pattern_and p ps) + numbers e) data_places T pl.0 t.0.0 (with_head N types bs scope) before m z);
     of_function = (types (1 + lo), (arrows (pattern_types types ps (1 + lo + pattern_numbers p)) (types (1 + lo + all_pattern_numbers (pattern_and p ps))), t.1));
+    typed_as = t.1;
     by_itself = λ before m z. subst (λ n. Meets N types home In Vars scope (Lambda (pattern_and p ps) e) lo n before m.result.size m.state) (sym last)
         (lambda_meets bs p ps e le In Vars scope T lo hd pl t known (1 + lo + all_pattern_numbers (pattern_and p ps)) (1 + lo + all_pattern_numbers (pattern_and p ps) + numbers e) refl refl (subst (λ n. Elsewhere N types home lo n In) last E) before m
         (lambda_ran N types home K places bs (pattern_and p ps) e lo (1 + lo + all_pattern_numbers (pattern_and p ps)) (1 + lo + all_pattern_numbers (pattern_and p ps) + numbers e) data_places T pl.0 t.0.0 (with_head N types bs scope) before m z));
+    as_wanted = λ w σ before m f z. as_alone N types home K places bs (pattern_and p ps) e lo (with_head N types bs scope) w σ before m pl.0 f z;
+    chooses_none = λ before m z f. let R = lambda_ran N types home K places bs (pattern_and p ps) e lo (1 + lo + all_pattern_numbers (pattern_and p ps)) (1 + lo + all_pattern_numbers (pattern_and p ps) + numbers e) data_places T pl.0 t.0.0 (with_head N types bs scope) before m z in
+        subst (Chooses_none (pattern_and p ps)) (sym R.size) (function_none N types home K places bs (pattern_and p ps) (1 + lo) lo (1 + lo + all_pattern_numbers (pattern_and p ps) + numbers e) R.left pl.0 f);
   }
     where
       last : lo + numbers (Lambda (pattern_and p ps) e) ≡ 1 + lo + all_pattern_numbers (pattern_and p ps) + numbers e
@@ -550,7 +554,7 @@ module _ (N : Names) (types : Sub) (home : ℕ → ℕ) (K : Kinds) (places : Ki
     term_part (Strict o mark ts) = strict_part o mark ts (term_parts ts)
     term_part (Lambda no_pattern e) = λ In Vars scope T lo st d p t known E q. absurd p
     term_part (Lambda (pattern_and x ps) e) = lambda_part x ps e (term_part e)
-    term_part (Apply f e) = apply_part N types home K places data_places f e (apply_spine N types home K places data_places f e (spine_part f) (term_part e))
+    term_part (Apply f e) = apply_part N types home K places data_places f e (apply_spine N types home K places data_places f e (spine_part f) (term_part e) (headed_part e))
     term_part (Let b v e) = any_let N types home K places data_places b.sizes b.parameters b.is_function b.pattern v e (term_part v) (headed_part v) (term_part e)
     term_part (If c a b) = if_part c a b (term_part c) (term_part a) (term_part b)
     term_part (Loop mark sizes x first turns body) = loop_part sizes mark x first turns body (term_part first) (turns_part turns) (term_part body)
@@ -567,14 +571,14 @@ module _ (N : Names) (types : Sub) (home : ℕ → ℕ) (K : Kinds) (places : Ki
 
     spine_part : (f : FlatTerm) → Spine_law N types home K places data_places f
     spine_part (Use (ref.Bound b) at k) = use_spine N types home K places data_places b at k
-    spine_part (Apply f e) = apply_spine N types home K places data_places f e (spine_part f) (term_part e)
+    spine_part (Apply f e) = apply_spine N types home K places data_places f e (spine_part f) (term_part e) (headed_part e)
     spine_part (Use (ref.Prim x) at k) = primitive_spine N types home K places data_places x at k
-    spine_part (Use (ref.Scalar x) at k) = λ In Vars scope T lo st d p t known E q. absurd p
-    spine_part (Strict o mark ts) = λ In Vars scope T lo st d p t known E q. absurd p
-    spine_part (Lambda ps e) = λ In Vars scope T lo st d p t known E q. absurd p
-    spine_part (Let b v e) = λ In Vars scope T lo st d p t known E q. absurd p
-    spine_part (If c a b) = λ In Vars scope T lo st d p t known E q. absurd p
-    spine_part (Loop mark sizes x first turns body) = λ In Vars scope T lo st d p t known E q. absurd p
+    spine_part (Use (ref.Scalar x) at k) = λ lambda In Vars scope T lo st d p t known E q. absurd p
+    spine_part (Strict o mark ts) = λ lambda In Vars scope T lo st d p t known E q. absurd p
+    spine_part (Lambda ps e) = λ lambda In Vars scope T lo st d p t known E q. absurd p
+    spine_part (Let b v e) = λ lambda In Vars scope T lo st d p t known E q. absurd p
+    spine_part (If c a b) = λ lambda In Vars scope T lo st d p t known E q. absurd p
+    spine_part (Loop mark sizes x first turns body) = λ lambda In Vars scope T lo st d p t known E q. absurd p
 
     term_parts : (ts : Terms Ref BindId) → Law_all ts
     term_parts no_term = no_part

@@ -1,16 +1,19 @@
 -- What is known of the names in scope: those that a typing uses have sized types of which only some sizes and type variables
 -- are said, and what is said of them can be found when the program runs.
 use Rattle.std.specs.Prelude.{◌≡◌, ◌⊎◌, ℕ, ◌<◌, Bool, true, false, Option, Some}
+use Rattle.fut_scalar.specs.declared.scalar.ScalarType.TheVariants as scalar
+use Rattle.fut_scalar.specs.declared.scalar.IntType.TheVariants as int
 use Rattle.fut_types.specs.declared.Head.{Head}
 use Rattle.fut_types.specs.declared.Head.TheVariants as head
 use Rattle.fut_types.specs.Types.{Ty, Sub, Kinds, fun_ty}
 use Rattle.fut_typing.specs.Names.{Names}
+use Rattle.fut_typing.specs.Primitives.{i64_ty}
 use Rattle.fut_typing.specs.Scopes.{Scope as TypeScope}
 use Rattle.sized_types.specs.Sizes.{Free, Const, Name, Variable, Inferred, Size, Hole, Open, Level, Built, Fun, Sizes, no_size, size_and, erased}
 use Rattle.fut_sizes.specs.Functions.{is_slot}
 use Rattle.fut_sizes.specs.Rules.{Each_hole, Outside}
 use Rattle.fut_sizes.specs.Scopes.{Scope}
-use Rattle.fut_sizes.specs.Scoping.{Context, is_number}
+use Rattle.fut_sizes.specs.Scoping.{Context}
 use Rattle.fut_sizes.specs.Suiting.{Each, Scoped, Of_positions}
 
 -- what data is made by beside arrays and type variables
@@ -20,15 +23,24 @@ Is_made head.Fun = ⊥
 Is_made (head.Rigid n k) = ⊥
 Is_made h = Unit {0}
 
+-- of type i64: such a value is a size
+abbrev pub head_i64 : Head → Bool
+head_i64 (head.Scalar (scalar.Int int.I64)) = true
+head_i64 h = false
+
+abbrev pub is_i64_size : Size → Bool
+is_i64_size (Built h no_size) = head_i64 h
+is_i64_size t = false
+
 -- nothing is open; what a function takes names the sizes that its caller chooses, and no others of its frame; what it gives names
--- the argument only where that is a number
+-- the argument only where that is of type i64
 unfoldable mutual
   pub Formed : Size → Type 0
   Formed (Hole v) = Unit {0}
   Formed (Open n v u) = ⊥
   Formed (Level d t) = Formed t
   Formed (Built h ts) = Is_made h × All_formed ts
-  Formed (Fun k p r) = Formed p × Formed r × Each (Of_positions (λ i. i < k)) 1 p × (is_number p ≡ false → Each (Of_positions (λ i. i ≡ k → ⊥)) 1 r)
+  Formed (Fun k p r) = Formed p × Formed r × Each (Of_positions (λ i. i < k)) 1 p × (is_i64_size p ≡ false → Each (Of_positions (λ i. i ≡ k → ⊥)) 1 r)
 
   pub All_formed : Sizes → Type 0
   All_formed no_size = Unit {0}
@@ -41,16 +53,16 @@ pub record Says (In : Free → Type 0) (Vars : Variable → Type 0) (t : Size) :
   pub formed : Formed t
 
 -- of a name that is used at a type. A general one is a function without type variables, used at the type of the pattern that
--- binds it.
+-- binds it, or a definition that is a number of type i64.
 pub record Known_name (In : Free → Type 0) (Vars : Variable → Type 0) (types : Sub) (home : ℕ → ℕ) (scope : Scope) (b : ℕ) (t : Ty) : Type 0 where
   pub size : Size
   pub is_general : Bool
   pub known : scope b ≡ Some (record { size = size; is_general = is_general })
   pub says : Says In Vars size
   pub closed : is_general ≡ true → Each_hole (λ v. ⊥) size
-  pub function : is_general ≡ true → (p : Ty) × (r : Ty) × (t ≡ fun_ty p r)
+  pub function : is_general ≡ true → ((p : Ty) × (r : Ty) × (t ≡ fun_ty p r)) ⊎ (types (home b) ≡ i64_ty)
   pub typed : (is_general ≡ true → t ≡ types (home b)) → erased size ≡ t
-  pub number : is_number size ≡ true → In (Name b)
+  pub number : is_i64_size size ≡ true → In (Name b)
 
 abbrev pub Known_names : (Free → Type 0) → (Variable → Type 0) → (ℕ → ℕ) → Scope → Kinds → Sub → TypeScope → Type 0
 Known_names In Vars home scope K types T = (b : ℕ) (t : Ty) → T.uses b K types t → Known_name In Vars types home scope b t

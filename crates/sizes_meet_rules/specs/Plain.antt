@@ -1,9 +1,9 @@
 -- The terms of which the law speaks: names, operations, functions of data, lets of data and of functions, branches, loops and
--- applications of names and primitives to all of their arguments, which are data. A node that binds a name is the home of that name.
+-- applications of names and primitives to all of their arguments, which are data; a primitive may take one lambda whose parameters
+-- have no arrays. Programs are of functions and numbers. A node that binds a name is the home of that name.
 use Rattle.std.specs.Prelude.{◌≡◌, ◌⊎◌, ℕ, ◌+◌, Bool, true, false, List, [], ◌∷◌, None}
 use Rattle.fut_scalar.specs.declared.place.BindId.{BindId}
 use Rattle.fut_scalar.specs.declared.scalar.ScalarType.{ScalarType}
-use Rattle.fut_scalar.specs.declared.scalar.ScalarType.TheVariants as sort
 use Rattle.fut_flat.specs.declared.prim.Primitive.{Primitive}
 use Rattle.fut_flat.specs.declared.prim.Primitive.TheVariants as prim
 use Rattle.fut_flat.specs.declared.prim.Ref.{Ref}
@@ -22,9 +22,7 @@ use Rattle.sizes_meet_rules.specs.Known.{Is_made}
 use Rattle.fut_sizes.specs.Agreeing.{is_among}
 use Rattle.fut_sizes.specs.Compositions.{composition}
 use Rattle.fut_sizes.specs.Functions.{Taking, stands_among, without, chosen_by, size_names}
-use Rattle.fut_sizes.specs.Primitives.{prim_size}
-use Rattle.fut_sizes.specs.Rules.{Each_hole}
-use Rattle.fut_sizes.specs.Scopes.{type_of, or_variable, names}
+use Rattle.fut_sizes.specs.Scopes.{names}
 use Rattle.fut_sizes.specs.Sizing.{bind_ids, in_pattern, own_sizes}
 
 -- a type without type variables, made as the language makes types: an array of one type, a function of two
@@ -53,6 +51,15 @@ unfoldable mutual
   pub Flat_types : Tys → Type 0
   Flat_types none = Unit {0}
   Flat_types (more t ts) = Flat_type t × Flat_types ts
+
+-- a function whose parameters have no arrays
+abbrev pub Flat_parameters : Sub → Patterns Ref BindId → ℕ → Type 0
+Flat_parameters types no_pattern q = Unit {0}
+Flat_parameters types (pattern_and p ps) q = Flat_type (types q) × Flat_parameters types ps (q + pattern_numbers p)
+
+abbrev pub Lambda_flat : Sub → FlatTerm → ℕ → Type 0
+Lambda_flat types (Lambda ps e) lo = Flat_parameters types ps (1 + lo)
+Lambda_flat types e lo = ⊥
 
 -- a written type of data
 abbrev mutual
@@ -92,32 +99,12 @@ Plain_operation N (Ascribe e) t ts = Unit {0}
 Plain_operation N (Coerce e) t ts = Written_data e
 Plain_operation N (Declared e) t ts = Written_data e
 
--- a primitive that takes no function
-abbrev pub Takes_data : Primitive → Type 0
-Takes_data prim.Map = ⊥
-Takes_data prim.Map2 = ⊥
-Takes_data prim.Map3 = ⊥
-Takes_data prim.Map4 = ⊥
-Takes_data prim.Map5 = ⊥
-Takes_data prim.Reduce = ⊥
-Takes_data prim.ReduceComm = ⊥
-Takes_data prim.Scan = ⊥
-Takes_data prim.Filter = ⊥
-Takes_data prim.Partition = ⊥
-Takes_data prim.ReduceByIndex = ⊥
-Takes_data prim.Tabulate = ⊥
-Takes_data p = Unit {0}
-
 -- a primitive that is a number
 abbrev pub Is_constant : Primitive → Type 0
 Is_constant (prim.Lowest own) = Unit {0}
 Is_constant (prim.Highest own) = Unit {0}
 Is_constant (prim.NumBits own) = Unit {0}
 Is_constant p = ⊥
-
--- used at a type where its variables stand for types without arrays
-abbrev pub Plain_primitive : Primitive → Ty → Type 0
-Plain_primitive p t = Takes_data p × Each_hole (λ v. Flat_type (or_variable v (type_of v (prim_size p) t))) (prim_size p)
 
 -- a function under a name
 abbrev pub Is_lambda : FlatTerm → Type 0
@@ -138,17 +125,6 @@ abbrev pub Are_sizes : List (Parameter BindId) → Type 0
 Are_sizes [] = Unit {0}
 Are_sizes (Size_parameter b ∷ ps) = Are_sizes ps
 Are_sizes (Type_parameter b lifted ∷ ps) = ⊥
-
--- the type of a whole number
-abbrev pub number_ty : Ty → Bool
-number_ty (Made (head.Scalar (sort.Int i)) ts) = true
-number_ty t = false
-
--- an argument that is a literal is of type i64, and a name that is a whole number is of that type too
-abbrev pub Plain_argument : FlatTerm → Ty → Type 0
-Plain_argument (Use r at k) t = (t ≡ i64_ty) ⊎ (number_ty t ≡ false)
-Plain_argument (Strict (Integer c i) mark no_term) t = t ≡ i64_ty
-Plain_argument e t = Unit {0}
 
 module _ (types : Sub) (home : ℕ → ℕ) (K : Kinds) (places : Kind) where
   -- a name, none, or the parts of a tuple or a record; each may have a written type of data
@@ -201,6 +177,11 @@ module _ (types : Sub) (home : ℕ → ℕ) (K : Kinds) (places : Kind) where
   Plain_let N true [] ps p v q = Plain_pattern p q × Is_bound p × Is_lambda v × Formed_type (types q) × Are_sizes ps × Plain_headed N (size_names ps) v (q + pattern_numbers p)
   Plain_let N is_function sizes parameters p v q = ⊥
 
+  -- a lambda whose parameters have no arrays, and which gives data
+  abbrev pub Plain_lambda : FlatTerm → ℕ → Type 0
+  Plain_lambda (Lambda (pattern_and p ps) e) lo = Flat_parameters types (pattern_and p ps) (1 + lo) × HasKind K places (types (1 + lo + all_pattern_numbers (pattern_and p ps)))
+  Plain_lambda e lo = ⊥
+
   module _ (N : Names) where
     abbrev mutual
       pub Plain_term : FlatTerm → ℕ → Type 0
@@ -209,8 +190,8 @@ module _ (types : Sub) (home : ℕ → ℕ) (K : Kinds) (places : Kind) where
       Plain_term (Use (ref.Prim p) at k) lo = Is_constant p
       Plain_term (Strict o mark ts) lo = Plain_operation N o (types lo) ts × Plain_terms ts (lo + own_numbers o)
       Plain_term (Lambda (pattern_and p ps) e) lo = Plain_patterns (pattern_and p ps) (1 + lo) × Plain_term e (1 + lo + all_pattern_numbers (pattern_and p ps))
-      -- a function by its name, applied to all of its arguments: these and the result are data
-      Plain_term (Apply f e) lo = HasKind K places (types lo) × (Plain_argument e (types (1 + lo + numbers f)) × HasKind K places (types (1 + lo + numbers f)) × Plain_spine f (1 + lo) × Plain_term e (1 + lo + numbers f))
+      -- a function by its name, or a primitive, applied to all of its arguments: the result is data, and so are these, but for a lambda
+      Plain_term (Apply f e) lo = HasKind K places (types lo) × (((HasKind K places (types (1 + lo + numbers f)) × Plain_spine false f (1 + lo)) ⊎ ((false ≡ false) × Plain_lambda e (1 + lo + numbers f) × Plain_spine true f (1 + lo))) × Plain_term e (1 + lo + numbers f))
       Plain_term (Let b v e) lo = Plain_let N b.is_function b.sizes b.parameters b.pattern v (1 + lo) × (composition b e ≡ None)
           × (HasKind K places (types (1 + lo + pattern_numbers b.pattern)) ⊎ (Is_lambda v × Is_bound b.pattern)) × Plain_term v (1 + lo + pattern_numbers b.pattern) × Plain_term e (1 + lo + pattern_numbers b.pattern + numbers v)
       Plain_term (If c a b) lo = Plain_term c (1 + lo) × Plain_term a (1 + lo + numbers c) × Plain_term b (1 + lo + numbers c + numbers a)
@@ -218,12 +199,12 @@ module _ (types : Sub) (home : ℕ → ℕ) (K : Kinds) (places : Kind) where
           × Plain_turns turns (1 + lo + pattern_numbers p + numbers first) × Plain_term body (1 + lo + pattern_numbers p + numbers first + turn_numbers turns)
       Plain_term e lo = ⊥
 
-      -- a name, applied to arguments of data
-      pub Plain_spine : FlatTerm → ℕ → Type 0
-      Plain_spine (Use (ref.Bound b) at k) lo = types lo ≡ types (home b.0)
-      Plain_spine (Use (ref.Prim p) at k) lo = Plain_primitive p (types lo)
-      Plain_spine (Apply f e) lo = Plain_argument e (types (1 + lo + numbers f)) × HasKind K places (types (1 + lo + numbers f)) × Plain_spine f (1 + lo) × Plain_term e (1 + lo + numbers f)
-      Plain_spine e lo = ⊥
+      -- a name, applied to arguments of data, or a primitive, applied to data and one lambda, where it is told whether it stands behind
+      pub Plain_spine : Bool → FlatTerm → ℕ → Type 0
+      Plain_spine lambda (Use (ref.Bound b) at k) lo = (lambda ≡ false) × (types lo ≡ types (home b.0))
+      Plain_spine lambda (Use (ref.Prim p) at k) lo = Unit {0}
+      Plain_spine lambda (Apply f e) lo = ((HasKind K places (types (1 + lo + numbers f)) × Plain_spine lambda f (1 + lo)) ⊎ ((lambda ≡ false) × Plain_lambda e (1 + lo + numbers f) × Plain_spine true f (1 + lo))) × Plain_term e (1 + lo + numbers f)
+      Plain_spine lambda e lo = ⊥
 
       pub Plain_terms : Terms Ref BindId → ℕ → Type 0
       Plain_terms no_term lo = Unit {0}
@@ -235,8 +216,16 @@ module _ (types : Sub) (home : ℕ → ℕ) (K : Kinds) (places : Kind) where
       Plain_turns (While c) lo = Plain_term c lo
 
     -- a definition of a function, without type parameters, whose type has no type variables
+    abbrev pub Function_definition : List (Parameter BindId) → FlatTerm → ℕ → Type 0
+    Function_definition ps v lo = Is_lambda v × Formed_type (types lo) × Are_sizes ps × Plain_headed N (size_names ps) v (lo + 1) × Plain_term v (lo + 1)
+
+    -- a definition of a number of type i64
+    abbrev pub Number_definition : List (Parameter BindId) → FlatTerm → ℕ → Type 0
+    Number_definition [] v lo = (types lo ≡ i64_ty) × Plain_term v (lo + 1)
+    Number_definition ps v lo = ⊥
+
     abbrev pub Plain_definition : FlatPattern → List (Parameter BindId) → FlatTerm → ℕ → Type 0
-    Plain_definition (Bound_pattern b) ps v lo = (home b.0 ≡ lo) × Is_lambda v × Formed_type (types lo) × Are_sizes ps × Plain_headed N (size_names ps) v (lo + 1) × Plain_term v (lo + 1)
+    Plain_definition (Bound_pattern b) ps v lo = (home b.0 ≡ lo) × (Function_definition ps v lo ⊎ Number_definition ps v lo)
     Plain_definition p ps v lo = ⊥
 
     abbrev pub Plain_definitions : List Defined → ℕ → Type 0

@@ -3,13 +3,13 @@
 //! `fut_sizes` has both: a function by structure, which gives each node of a term a sized type or the first refusal, and one rule a
 //! form, which a sizing is judged by; what is proved of values (`sized_meaning`) hangs on the rules alone. Here the one is joined to
 //! the other, for the terms of `specs/Plain.antt`: names, all operations, functions of data, lets of data, local functions without
-//! type variables, loops, branches, and a name's function or a primitive applied to all of its arguments, where these and the result
-//! are data and a primitive's variables stand for types without arrays; patterns are names and parts of tuples and records, with
-//! written types or without, and one name with a written type may name sizes; functions under a name may have size parameters; and
-//! for programs whose definitions are functions of such terms. Of others nothing is claimed yet: other applications (to fewer
-//! arguments, to functions, to a literal or the name of a whole number that is no i64), general names with type variables, primitives
-//! whose variables stand for arrays, sizes that parts of a pattern name, parameters of type variables, written types of functions,
-//! definitions that are no functions. `proofs/Unmet.antt` has what a rule asks and the pass does not give.
+//! type variables, loops, branches, a name's function applied to all of its arguments, which are data, and a primitive applied to all
+//! of its arguments: data, and where it takes a function a lambda whose parameters have no arrays; the results of all these are data;
+//! patterns are names and parts of tuples and records, with written types or without, and one name with a written type may name
+//! sizes; functions under a name may have size parameters; and for programs whose definitions are functions of such terms, or such
+//! terms of type i64, which are sizes for those behind them. Of others nothing is claimed yet: other applications (to fewer
+//! arguments, to other functions), general names with type variables, sizes that parts of a pattern name, parameters of type
+//! variables, written types of functions, other definitions that are no functions. `proofs/Unmet.antt` has what a rule asks and the pass does not give.
 //!
 //! `specs/Known.antt` says what is known of the names in scope. The proof goes by structure (`proofs/Walking.antt`): of each term
 //! it says which sizes stand in its sized type, which nodes are noted, and that they meet the rules (`proofs/Meeting.antt`). A
@@ -19,9 +19,12 @@
 //! (`proofs/Listing.antt`, `proofs/Arrows.antt`). A loop is sized until a turn keeps all that is kept, which comes before its
 //! levels are used up (`proofs/Turning.antt`, `proofs/Looping.antt`). What is found of an argument reads as the argument
 //! (`proofs/Reading.antt`), and what stays open is an unknown of the application's node (`proofs/Applying.antt`). All arguments
-//! of a function are matched at the end (`proofs/Chains.antt`); then each position of its arrows stands for one size
-//! (`proofs/Frames.antt`), and all nodes are noted (`proofs/Noting.antt`, `proofs/Spines.antt`). A primitive is matched as it
-//! would be with types for its variables (`proofs/Filling.antt`, `proofs/Primitives.antt`, `proofs/Heads.antt`). Definitions
+//! of a function are matched at the end, data first (`proofs/Chains.antt`); then each position of its arrows stands for one size
+//! (`proofs/Frames.antt`), and all nodes are noted (`proofs/Noting.antt`, `proofs/Parts.antt`, `proofs/Applied.antt`). Each variable
+//! of a primitive takes one sized type, and all is matched as it would be with these types (`proofs/Filling.antt`,
+//! `proofs/Alike.antt`, `proofs/Primitives.antt`, `proofs/Heads.antt`). A lambda that a primitive takes is sized behind the other
+//! arguments, as by itself (`proofs/Wanting.antt`, `proofs/Later.antt`), and then has the type that is wanted (`proofs/Fitting.antt`,
+//! `proofs/Lambdas.antt`). Definitions
 //! stand in a row (`proofs/Defining.antt`).
 #![tactic(auto)]
 

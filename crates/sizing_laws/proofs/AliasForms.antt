@@ -25,7 +25,7 @@ use Rattle.fut_aliases.specs.Capturing.{Capture, Path, Names_of, captures, captu
 use Rattle.fut_aliases.specs.Calls.{Here, Held, not_consumable, captured, settled}
 use Rattle.fut_aliases.specs.Operations.{field_of, fields_of, record_of, row, first_value, last_value, array_name, shares_with, update, ascribe, without_part, of_parts, operation}
 use Rattle.fut_aliases.specs.Loops.{own_names, all_own_names, fields_own_names, each_at, Labelled, at_label, in_order, starts, all_starts, fields_start}
-use Rattle.sizing_laws.specs.Renumbering.{Same_names, Renumbers, renumbered_head, renumbered_type}
+use Rattle.sizing_laws.specs.Renumbering.{Same_names, Renumbers, renumbered_head, renamed_type}
 use Rattle.sizing_laws.proofs.Written.{cond_through, label_same, same_label}
 use Rattle.sizing_laws.proofs.Stars.{to_value, to_values, of_type_value, components_same, aliases_same, named_value, ascribed_value, part_named_value, with_part_named_value, written_same}
 use Rattle.sizing_laws.proofs.AliasSteps.{AnswerR, gives, StepTo, then_same}
@@ -102,37 +102,37 @@ module _ (M N : Names) (m : AreNames M) (n : AreNames N) (number : ℕ → ℕ) 
   fields_to (k ∷ ks) [] h fs xs = absurd h
   fields_to [] (l ∷ ls) h fs xs = absurd h
 
-  record_to : (fs : List Text) (t : Ty) (xs : List Held) → record_of N fs (renumbered_type number t) (to_helds number xs) ≡ go (record_of M fs t xs)
-  record_to fs (Made (head.Record r) ts) xs = ap (Parts (head.Record (number r))) (fields_to (M.shapes.fields r) (N.shapes.fields (number r)) (renumbers r) fs xs)
-  record_to fs t xs = refl
+  record_to : (variable : ℕ → ℕ) (fs : List Text) (t : Ty) (xs : List Held) → record_of N fs (renamed_type number variable t) (to_helds number xs) ≡ go (record_of M fs t xs)
+  record_to variable fs (Made (head.Record r) ts) xs = ap (Parts (head.Record (number r))) (fields_to (M.shapes.fields r) (N.shapes.fields (number r)) (renumbers r) fs xs)
+  record_to variable fs t xs = refl
 
   without_to : (f : Text) (a : Held) → without_part N f (to_held number a) ≡ to_held number (without_part M f a)
   without_to f a = λ i. record { node = a.node; called = a.called; first_name = a.first_name; value = with_part_named_value M N m n number renumbers f Scalar a.value i; losses = a.losses }
 
   -- ---- operations
 
-  module _ (K : Kinds) (types : Sub) (h : Here) where
-    abbrev others : Sub
-    others k = renumbered_type number (types k)
-
+  module _ (variable : ℕ → ℕ) (K : Kinds) (keeps : (v : ℕ) → K (variable v) ≡ K v) (types others : Sub) (k : ℕ) (is : others k ≡ renamed_type number variable (types k)) (h : Here) where
     parts_to : (xs ys : List Held) → ys ≡ to_helds number xs → (v w : Value) → w ≡ go v → StepTo go (of_parts M K types h xs v) (of_parts N K others (to_here number h) ys w)
     parts_to xs ys g v w e ls = then_same (ap (settled (to_here number h)) g ∙ settled_same number h xs) ls _ _ (λ z ls2. gives e)
 
-    ascribed_as : (e : FlatType) (k : ℕ) (a : Held) → StepTo go (ascribe h (written_stars M false e (types k)) a) (ascribe (to_here number h) (written_stars N false e (others k)) (to_held number a))
-    ascribed_as e k a ls = subst (λ u. AnswerR (λ (x : Value) (y : Value). y ≡ go x) (ascribe h (written_stars M false e (types k)) a ls) (ascribe (to_here number h) u (to_held number a) ls)) (sym (written_same M N m n number renumbers false e (types k))) (ascribe_to number h (written_stars M false e (types k)) a ls)
+    ascribed_as : (e : FlatType) (a : Held) → StepTo go (ascribe h (written_stars M false e (types k)) a) (ascribe (to_here number h) (written_stars N false e (others k)) (to_held number a))
+    ascribed_as e a ls = subst (λ u. AnswerR (λ (x : Value) (y : Value). y ≡ go x) (ascribe h (written_stars M false e (types k)) a ls) (ascribe (to_here number h) u (to_held number a) ls)) (sym (ap (written_stars N false e) is ∙ written_same M N m n number renumbers variable false e (types k))) (ascribe_to number h (written_stars M false e (types k)) a ls)
 
-    pub operation_to : (o : Operation Ref BindId) (k : ℕ) (mark : Place) (xs : List Held) → StepTo go (operation M K types h o k mark xs) (operation N K others (to_here number h) o k mark (to_helds number xs))
-    operation_to Tuple_of k mark xs ls = parts_to xs (to_helds number xs) refl (Parts head.Tuple (row xs)) (Parts head.Tuple (row (to_helds number xs))) (ap (Parts head.Tuple) (row_to number xs)) ls
-    operation_to (Record_of fs) k mark xs ls = parts_to xs (to_helds number xs) refl (record_of M fs (types k) xs) (record_of N fs (others k) (to_helds number xs)) (record_to fs (types k) xs) ls
-    operation_to (Index is) k mark xs ls = parts_to xs (to_helds number xs) refl (of_type K (aliases (first_value xs)) (types k)) (of_type K (aliases (first_value (to_helds number xs))) (others k))
-        ((λ i. of_type K ((ap aliases (first_to number xs) ∙ aliases_same number (first_value xs)) i) (others k)) ∙ of_type_value number K (aliases (first_value xs)) (types k)) ls
-    operation_to (Project f) k mark xs ls = gives (ap (part_named N f) (first_to number xs) ∙ part_named_value M N m n number renumbers f (first_value xs))
-    operation_to Update k mark (a ∷ xs) ls = subst (λ v. AnswerR (λ (x : Value) (y : Value). y ≡ go x) (update h mark a xs (of_type K [] (types k)) ls) (update (to_here number h) mark (to_held number a) (to_helds number xs) v ls)) (sym (of_type_value number K [] (types k))) (update_to number h mark a xs (of_type K [] (types k)) ls)
-    operation_to (Replace f) k mark (r ∷ v ∷ []) ls = parts_to (without_part M f r ∷ v ∷ []) (without_part N f (to_held number r) ∷ to_held number v ∷ []) (ap (λ x. x ∷ to_held number v ∷ []) (without_to f r)) (with_part_named M f v.value r.value) (with_part_named N f (go v.value) (go r.value)) (with_part_named_value M N m n number renumbers f v.value r.value) ls
-    operation_to (Ascribe e) k mark (a ∷ []) ls = ascribed_as e k a ls
-    operation_to (Coerce e) k mark (a ∷ []) ls = ascribed_as e k a ls
-    operation_to (Declared e) k mark (a ∷ []) ls = ascribed_as e k a ls
-    operation_to o k mark xs ls = parts_to xs (to_helds number xs) refl (of_type K [] (types k)) (of_type K [] (others k)) (of_type_value number K [] (types k)) ls
+    value_here : (s : Set) → of_type K s (others k) ≡ go (of_type K s (types k))
+    value_here s = ap (of_type K s) is ∙ of_type_value number variable K keeps s (types k)
+
+    pub operation_to : (o : Operation Ref BindId) (mark : Place) (xs : List Held) → StepTo go (operation M K types h o k mark xs) (operation N K others (to_here number h) o k mark (to_helds number xs))
+    operation_to Tuple_of mark xs ls = parts_to xs (to_helds number xs) refl (Parts head.Tuple (row xs)) (Parts head.Tuple (row (to_helds number xs))) (ap (Parts head.Tuple) (row_to number xs)) ls
+    operation_to (Record_of fs) mark xs ls = parts_to xs (to_helds number xs) refl (record_of M fs (types k) xs) (record_of N fs (others k) (to_helds number xs)) (ap (λ t. record_of N fs t (to_helds number xs)) is ∙ record_to variable fs (types k) xs) ls
+    operation_to (Index is) mark xs ls = parts_to xs (to_helds number xs) refl (of_type K (aliases (first_value xs)) (types k)) (of_type K (aliases (first_value (to_helds number xs))) (others k))
+        ((λ i. of_type K ((ap aliases (first_to number xs) ∙ aliases_same number (first_value xs)) i) (others k)) ∙ value_here (aliases (first_value xs))) ls
+    operation_to (Project f) mark xs ls = gives (ap (part_named N f) (first_to number xs) ∙ part_named_value M N m n number renumbers f (first_value xs))
+    operation_to Update mark (a ∷ xs) ls = subst (λ v. AnswerR (λ (x : Value) (y : Value). y ≡ go x) (update h mark a xs (of_type K [] (types k)) ls) (update (to_here number h) mark (to_held number a) (to_helds number xs) v ls)) (sym (value_here [])) (update_to number h mark a xs (of_type K [] (types k)) ls)
+    operation_to (Replace f) mark (r ∷ v ∷ []) ls = parts_to (without_part M f r ∷ v ∷ []) (without_part N f (to_held number r) ∷ to_held number v ∷ []) (ap (λ x. x ∷ to_held number v ∷ []) (without_to f r)) (with_part_named M f v.value r.value) (with_part_named N f (go v.value) (go r.value)) (with_part_named_value M N m n number renumbers f v.value r.value) ls
+    operation_to (Ascribe e) mark (a ∷ []) ls = ascribed_as e a ls
+    operation_to (Coerce e) mark (a ∷ []) ls = ascribed_as e a ls
+    operation_to (Declared e) mark (a ∷ []) ls = ascribed_as e a ls
+    operation_to o mark xs ls = parts_to xs (to_helds number xs) refl (of_type K [] (types k)) (of_type K [] (others k)) (value_here []) ls
 
   -- ---- what a term names from outside
 

@@ -1,18 +1,19 @@
 -- What names stand for, what patterns bind, and calls, by two numberings.
-use Rattle.std.proofs.Common.{◌≡◌, ℕ, ◌+◌, Bool, true, false, cond, nat_eq, nat_le, List, [], ◌∷◌, ◌++◌, Option, Some, None, refl, sym, ap, ◌∙◌, subst}
+use Rattle.std.proofs.Common.{◌≡◌, ℕ, ◌+◌, ◌≤◌, ◌<◌, arith, Bool, true, false, cond, nat_eq, nat_le, List, [], ◌∷◌, ◌++◌, Option, Some, None, refl, sym, ap, ◌∙◌, subst}
 use Rattle.fut_ast.specs.Sorts.{Text}
 use Rattle.fut_scalar.specs.declared.place.BindId.{BindId}
 use Rattle.fut_flat.specs.declared.prim.Ref.{Ref}
 use Rattle.fut_flat.specs.Terms.{Bound_pattern, Wild_pattern, Tuple_pattern, Record_pattern, Typed_pattern, Patterns, no_pattern, pattern_and}
-use Rattle.fut_flat.specs.Numbers.{pattern_numbers}
-use Rattle.fut_flat.specs.Erased.{FlatPattern}
+use Rattle.fut_flat.specs.Numbers.{pattern_numbers, all_pattern_numbers}
+use Rattle.fut_flat.specs.Erased.{FlatPattern, FlatType}
 use Rattle.fut_types.specs.declared.Head.{Head}
 use Rattle.fut_types.specs.declared.Head.TheVariants as head
 use Rattle.fut_types.specs.Types.{Ty, Var, Made, none, more, Sub, Kinds}
 use Rattle.fut_types.specs.Shapes.{place}
 use Rattle.fut_typing.specs.Names.{Names, AreNames}
+use Rattle.fut_typing.proofs.Ranges.{pattern_some}
 use Rattle.fut_aliases.specs.Aliases.{Set, Naming, union}
-use Rattle.fut_aliases.specs.Stars.{Stars, Leaf, Arrow, Row, StarRow, star_and, star_at, with_star, row_of, no_stars, written_stars, consumes_more, gives_less}
+use Rattle.fut_aliases.specs.Stars.{Stars, Leaf, Arrow, Row, StarRow, star_and, star_at, with_star, row_of, no_stars, spread, written_stars, consumes_more, gives_less}
 use Rattle.fut_aliases.specs.Values.{Value, Function, Parts, Values, no_value, value_and, with_stars, named, aliases, ascribed, part_named, Component, starring, taken, left, those_with}
 use Rattle.fut_aliases.specs.Steps.{Losses, behind, and_then, losses_now, consume, demand, or_else, lost}
 use Rattle.fut_aliases.specs.declared.refusals.Broken.{Broken}
@@ -22,7 +23,7 @@ use Rattle.fut_aliases.specs.declared.refusals.Named.TheVariants.{ByAlias, ByNam
 use Rattle.fut_aliases.specs.declared.refusals.Spot.TheVariants.{First}
 use Rattle.fut_aliases.specs.Patterns.{Scope, with_value, pattern_stars, tuple_stars, record_stars, bound, all_bound, fields_bound, kept, all_kept, fields_kept}
 use Rattle.fut_aliases.specs.Calls.{Here, Held, Part, not_consumable, captured, when, too_hungry, too_shared, held_loss, first_broken, settled, Given, given, stars_behind, type_behind, sides, given_sides, clashes, consume_given, left_by, given_to, unstarred, with_own, call_value, stars_of, starred_argument, use_name, partial, call, apply_as, finished}
-use Rattle.sizing_laws.specs.Renumbering.{Renumbers, renumbered_head, renumbered_type}
+use Rattle.sizing_laws.specs.Renumbering.{Renumbers, renumbered_head, renamed_type}
 use Rattle.sizing_laws.proofs.Written.{cond_through, place_same}
 use Rattle.sizing_laws.proofs.Stars.{to_value, to_values, spread_same, with_stars_value, aliases_same, named_value, starring_same, functions_same, ascribed_value, part_named_value, written_same}
 use Rattle.sizing_laws.proofs.AliasSteps.{AnswerR, gives, StepTo, then_same}
@@ -30,9 +31,6 @@ use Rattle.sizing_laws.proofs.AliasSteps.{AnswerR, gives, StepTo, then_same}
 module _ (number : ℕ → ℕ) where
   abbrev val : Value → Value
   val = to_value number
-
-  abbrev to_type : Ty → Ty
-  to_type = renumbered_type number
 
   -- ---- scopes
 
@@ -57,9 +55,6 @@ module _ (number : ℕ → ℕ) where
 
   abbrev pub to_here : Here → Here
   to_here h = record { scope = to_scope h.scope; fixed = h.fixed; loop_from = h.loop_from; function_from = h.function_from; asked = h.asked }
-
-  abbrev pub to_part : Part → Part
-  to_part p = record { head = to_held p.head; name = p.name; type = to_type p.type; arguments = to_helds p.arguments }
 
   pub helds_on : (xs ys : List Held) → to_helds (xs ++ ys) ≡ to_helds xs ++ to_helds ys
   helds_on [] ys = refl
@@ -107,11 +102,6 @@ module _ (number : ℕ → ℕ) where
   stars_behind_same (a ∷ xs) (Arrow b p r) = stars_behind_same xs r
   stars_behind_same (a ∷ xs) u = refl
 
-  type_behind_to : (xs : List Held) (t : Ty) → type_behind (to_helds xs) (to_type t) ≡ to_type (type_behind xs t)
-  type_behind_to [] t = refl
-  type_behind_to (a ∷ xs) (Made head.Fun (more p (more r none))) = type_behind_to xs r
-  type_behind_to (a ∷ xs) t = refl
-
   given_sides_same : (gs : List Given) → given_sides (to_givens gs) ≡ given_sides gs
   given_sides_same [] = refl
   given_sides_same (g ∷ gs) = λ i. sides g.argument.node (starring_same number g.stars g.argument.value i) ++ given_sides_same gs i
@@ -133,10 +123,6 @@ module _ (number : ℕ → ℕ) where
   given_to_same : (xs : List Held) → given_to (to_helds xs) ≡ given_to xs
   given_to_same [] = refl
   given_to_same (a ∷ xs) = λ i. union (aliases_same number a.value i) (given_to_same xs i)
-
-  call_value_to : (K : Kinds) (n : ℕ) (s : Set) (u : Stars) (t : Ty) → call_value K n s u (to_type t) ≡ val (call_value K n s u t)
-  call_value_to K n s u t = (λ i. with_stars K (with_own n (nat_le 2 (unstarred ((ap (starring u) (with_stars_value number K s u t) ∙ starring_same number u (with_stars K s u t)) i))) s) u (to_type t))
-      ∙ with_stars_value number K (with_own n (nat_le 2 (unstarred (starring u (with_stars K s u t)))) s) u t
 
   pub stars_of_same : (v : Value) → stars_of (val v) ≡ stars_of v
   stars_of_same (Function s u) = refl
@@ -165,99 +151,124 @@ module _ (number : ℕ → ℕ) where
   arguments_settle : (h : Here) (f : Held) (gs : List Given) → settled (to_here h) (to_held f ∷ arguments_of (to_givens gs)) ≡ settled h (f ∷ arguments_of gs)
   arguments_settle h f gs = ap (λ xs. settled (to_here h) (to_held f ∷ xs)) (arguments_to gs) ∙ settled_same h (f ∷ arguments_of gs)
 
-  module _ (K : Kinds) (h : Here) where
-    pub use_name_same : (a : Held) (name : Option BindId) (t : Ty) (xs : List Held) → use_name K (to_here h) (to_part (record { head = a; name = name; type = t; arguments = xs })) ≡ use_name K h (record { head = a; name = name; type = t; arguments = xs })
+-- ---- with other names for variables
+
+module _ (number variable : ℕ → ℕ) where
+  abbrev to_type : Ty → Ty
+  to_type = renamed_type number variable
+
+  abbrev pub to_part : Part → Part
+  to_part p = record { head = to_held number p.head; name = p.name; type = to_type p.type; arguments = to_helds number p.arguments }
+
+  type_behind_to : (xs : List Held) (t : Ty) → type_behind (to_helds number xs) (to_type t) ≡ to_type (type_behind xs t)
+  type_behind_to [] t = refl
+  type_behind_to (a ∷ xs) (Made head.Fun (more p (more r none))) = type_behind_to xs r
+  type_behind_to (a ∷ xs) t = refl
+
+  call_value_to : (K : Kinds) (keeps : (v : ℕ) → K (variable v) ≡ K v) (n : ℕ) (s : Set) (u : Stars) (t : Ty) → call_value K n s u (to_type t) ≡ val number (call_value K n s u t)
+  call_value_to K keeps n s u t = (λ i. with_stars K (with_own n (nat_le 2 (unstarred ((ap (starring u) (with_stars_value number variable K keeps s u t) ∙ starring_same number u (with_stars K s u t)) i))) s) u (to_type t))
+      ∙ with_stars_value number variable K keeps (with_own n (nat_le 2 (unstarred (starring u (with_stars K s u t)))) s) u t
+
+  module _ (K : Kinds) (keeps : (v : ℕ) → K (variable v) ≡ K v) (h : Here) where
+    pub use_name_same : (a : Held) (name : Option BindId) (t : Ty) (xs : List Held) → use_name K (to_here number h) (to_part (record { head = a; name = name; type = t; arguments = xs })) ≡ use_name K h (record { head = a; name = name; type = t; arguments = xs })
     use_name_same a None t xs = refl
     use_name_same a (Some b) t xs = λ i. and_then losses_now (λ ls. demand h.asked (lost ls (λ z. ByName b) (First a.node) (aliases_same number a.value i)))
 
-    partial_to : (f : Held) (xs : List Held) → StepTo val (partial K h f xs) (partial K (to_here h) (to_held f) (to_helds xs))
+    partial_to : (f : Held) (xs : List Held) → StepTo (val number) (partial K h f xs) (partial K (to_here number h) (to_held number f) (to_helds number xs))
     partial_to f xs ls =
-        let e : given (to_helds xs) (stars_of (val f.value)) ≡ to_givens (given xs (stars_of f.value)) = ap (given (to_helds xs)) (stars_of_same f.value) ∙ given_as xs (stars_of f.value) in
-        then_same (λ i. demand h.asked (or_else ((ap (first_broken (λ g. too_hungry g.stars g.argument)) e ∙ givens_same (λ g. too_hungry g.stars g.argument) (λ g. hungry_same g.stars g.argument) (given xs (stars_of f.value))) i)
-        ((ap (first_broken (starred_argument f.called)) e ∙ givens_same (starred_argument f.called) (starred_same f.called) (given xs (stars_of f.value))) i))) ls _ _ (λ z ls2.
-        then_same (settled_same h (f ∷ xs)) ls2 _ _ (λ y ls3.
-        then_same (λ i. demand h.asked ((ap (first_broken (λ g. too_shared g.stars g.argument)) e ∙ givens_same (λ g. too_shared g.stars g.argument) (λ g. shared_same g.stars g.argument) (given xs (stars_of f.value))) i)) ls3 _ _ (λ x ls4.
-        gives (λ i. Function (union (aliases_same number f.value i) (given_to_same xs i)) ((ap (stars_behind (to_helds xs)) (stars_of_same f.value) ∙ stars_behind_same xs (stars_of f.value)) i)))))
+        let e : given (to_helds number xs) (stars_of (val number f.value)) ≡ to_givens number (given xs (stars_of f.value)) = ap (given (to_helds number xs)) (stars_of_same number f.value) ∙ given_as number xs (stars_of f.value) in
+        then_same (λ i. demand h.asked (or_else ((ap (first_broken (λ g. too_hungry g.stars g.argument)) e ∙ givens_same number (λ g. too_hungry g.stars g.argument) (λ g. hungry_same number g.stars g.argument) (given xs (stars_of f.value))) i)
+        ((ap (first_broken (starred_argument f.called)) e ∙ givens_same number (starred_argument f.called) (starred_same number f.called) (given xs (stars_of f.value))) i))) ls _ _ (λ z ls2.
+        then_same (settled_same number h (f ∷ xs)) ls2 _ _ (λ y ls3.
+        then_same (λ i. demand h.asked ((ap (first_broken (λ g. too_shared g.stars g.argument)) e ∙ givens_same number (λ g. too_shared g.stars g.argument) (λ g. shared_same number g.stars g.argument) (given xs (stars_of f.value))) i)) ls3 _ _ (λ x ls4.
+        gives (λ i. Function (union (aliases_same number f.value i) (given_to_same number xs i)) ((ap (stars_behind (to_helds number xs)) (stars_of_same number f.value) ∙ stars_behind_same number xs (stars_of f.value)) i)))))
 
-    call_to : (n : ℕ) (f : Held) (gs : List Given) (r : Stars) (t : Ty) → StepTo val (call K h n f gs r t) (call K (to_here h) n (to_held f) (to_givens gs) r (to_type t))
+    call_to : (n : ℕ) (f : Held) (gs : List Given) (r : Stars) (t : Ty) → StepTo (val number) (call K h n f gs r t) (call K (to_here number h) n (to_held number f) (to_givens number gs) r (to_type t))
     unfolding arguments_of
     call_to n f gs r t ls =
-        then_same (λ i. demand h.asked (givens_same (λ g. or_else (too_hungry g.stars g.argument) (not_consumable h (First g.argument.node) (taken g.stars g.argument.value)))
-        (λ g j. or_else (hungry_same g.stars g.argument j) (not_consumable h (First g.argument.node) (taken_same g.stars g.argument.value j))) gs i)) ls _ _ (λ z ls2.
-        then_same (λ i. demand h.asked (givens_same (λ g. captured h (First g.argument.node) (taken g.stars g.argument.value)) (λ g j. captured h (First g.argument.node) (taken_same g.stars g.argument.value j)) gs i)) ls2 _ _ (λ y ls3.
-        then_same (arguments_settle h f gs) ls3 _ _ (λ x ls4.
-        then_same (λ i. demand h.asked (clashes [] (sides f.node (starring_same number no_stars f.value i) ++ given_sides_same gs i))) ls4 _ _ (λ w ls5.
-        then_same (λ i. demand h.asked (givens_same (λ g. too_shared g.stars g.argument) (λ g. shared_same g.stars g.argument) gs i)) ls5 _ _ (λ v ls6.
-        then_same (consume_given_same gs) ls6 _ _ (λ u ls7.
-        gives ((λ i. call_value K n (union (aliases_same number f.value i) (left_by_same gs i)) r (to_type t)) ∙ call_value_to K n (union (aliases f.value) (left_by gs)) r t)))))))
+        then_same (λ i. demand h.asked (givens_same number (λ g. or_else (too_hungry g.stars g.argument) (not_consumable h (First g.argument.node) (taken g.stars g.argument.value)))
+        (λ g j. or_else (hungry_same number g.stars g.argument j) (not_consumable h (First g.argument.node) (taken_same number g.stars g.argument.value j))) gs i)) ls _ _ (λ z ls2.
+        then_same (λ i. demand h.asked (givens_same number (λ g. captured h (First g.argument.node) (taken g.stars g.argument.value)) (λ g j. captured h (First g.argument.node) (taken_same number g.stars g.argument.value j)) gs i)) ls2 _ _ (λ y ls3.
+        then_same (arguments_settle number h f gs) ls3 _ _ (λ x ls4.
+        then_same (λ i. demand h.asked (clashes [] (sides f.node (starring_same number no_stars f.value i) ++ given_sides_same number gs i))) ls4 _ _ (λ w ls5.
+        then_same (λ i. demand h.asked (givens_same number (λ g. too_shared g.stars g.argument) (λ g. shared_same number g.stars g.argument) gs i)) ls5 _ _ (λ v ls6.
+        then_same (consume_given_same number gs) ls6 _ _ (λ u ls7.
+        gives ((λ i. call_value K n (union (aliases_same number f.value i) (left_by_same number gs i)) r (to_type t)) ∙ call_value_to K keeps n (union (aliases f.value) (left_by gs)) r t)))))))
 
-    called_to : (n : ℕ) (f : Held) (xs : List Held) (t : Ty) (u : Stars) → StepTo val (call K h n f (given xs (stars_of f.value)) u (type_behind xs t)) (call K (to_here h) n (to_held f) (given (to_helds xs) (stars_of (val f.value))) u (type_behind (to_helds xs) (to_type t)))
-    called_to n f xs t u ls = subst (λ (x : List Given × Ty). AnswerR (λ (v : Value) (w : Value). w ≡ val v) (call K h n f (given xs (stars_of f.value)) u (type_behind xs t) ls) (call K (to_here h) n (to_held f) x.0 u x.1 ls))
-        (λ i. (sym (ap (given (to_helds xs)) (stars_of_same f.value) ∙ given_as xs (stars_of f.value)) i, sym (type_behind_to xs t) i)) (call_to n f (given xs (stars_of f.value)) u (type_behind xs t) ls)
+    called_to : (n : ℕ) (f : Held) (xs : List Held) (t : Ty) (u : Stars) → StepTo (val number) (call K h n f (given xs (stars_of f.value)) u (type_behind xs t)) (call K (to_here number h) n (to_held number f) (given (to_helds number xs) (stars_of (val number f.value))) u (type_behind (to_helds number xs) (to_type t)))
+    called_to n f xs t u ls = subst (λ (x : List Given × Ty). AnswerR (λ (v : Value) (w : Value). w ≡ val number v) (call K h n f (given xs (stars_of f.value)) u (type_behind xs t) ls) (call K (to_here number h) n (to_held number f) x.0 u x.1 ls))
+        (λ i. (sym (ap (given (to_helds number xs)) (stars_of_same number f.value) ∙ given_as number xs (stars_of f.value)) i, sym (type_behind_to xs t) i)) (call_to n f (given xs (stars_of f.value)) u (type_behind xs t) ls)
 
-    applied_to : (n : ℕ) (a : Held) (name : Option BindId) (t : Ty) (xs : List Held) (u : Stars) → StepTo val (apply_as K h n (record { head = a; name = name; type = t; arguments = xs }) u) (apply_as K (to_here h) n (to_part (record { head = a; name = name; type = t; arguments = xs })) u)
+    applied_to : (n : ℕ) (a : Held) (name : Option BindId) (t : Ty) (xs : List Held) (u : Stars) → StepTo (val number) (apply_as K h n (record { head = a; name = name; type = t; arguments = xs }) u) (apply_as K (to_here number h) n (to_part (record { head = a; name = name; type = t; arguments = xs })) u)
     applied_to n a name t xs (Arrow b q r) ls = partial_to a xs ls
     applied_to n a name t xs (Leaf b) ls = called_to n a xs t (Leaf b) ls
     applied_to n a name t xs (Row us) ls = called_to n a xs t (Row us) ls
 
-    finished_as : (n : ℕ) (a : Held) (name : Option BindId) (t : Ty) (xs : List Held) → StepTo val (finished K h n (record { head = a; name = name; type = t; arguments = xs })) (finished K (to_here h) n (to_part (record { head = a; name = name; type = t; arguments = xs })))
+    finished_as : (n : ℕ) (a : Held) (name : Option BindId) (t : Ty) (xs : List Held) → StepTo (val number) (finished K h n (record { head = a; name = name; type = t; arguments = xs })) (finished K (to_here number h) n (to_part (record { head = a; name = name; type = t; arguments = xs })))
     finished_as n a name t [] ls = then_same (use_name_same a name t []) ls _ _ (λ z ls2. gives refl)
-    finished_as n a name t (x ∷ xs) ls = subst (λ u. AnswerR (λ (v : Value) (w : Value). w ≡ val v) (apply_as K h n (record { head = a; name = name; type = t; arguments = x ∷ xs }) (stars_behind (x ∷ xs) (stars_of a.value)) ls) (apply_as K (to_here h) n (to_part (record { head = a; name = name; type = t; arguments = x ∷ xs })) u ls))
-        (sym (ap (stars_behind (to_helds (x ∷ xs))) (stars_of_same a.value) ∙ stars_behind_same (x ∷ xs) (stars_of a.value))) (applied_to n a name t (x ∷ xs) (stars_behind (x ∷ xs) (stars_of a.value)) ls)
+    finished_as n a name t (x ∷ xs) ls = subst (λ u. AnswerR (λ (v : Value) (w : Value). w ≡ val number v) (apply_as K h n (record { head = a; name = name; type = t; arguments = x ∷ xs }) (stars_behind (x ∷ xs) (stars_of a.value)) ls) (apply_as K (to_here number h) n (to_part (record { head = a; name = name; type = t; arguments = x ∷ xs })) u ls))
+        (sym (ap (stars_behind (to_helds number (x ∷ xs))) (stars_of_same number a.value) ∙ stars_behind_same number (x ∷ xs) (stars_of a.value))) (applied_to n a name t (x ∷ xs) (stars_behind (x ∷ xs) (stars_of a.value)) ls)
 
-    pub finished_to : (n : ℕ) (p : Part) → StepTo val (finished K h n p) (finished K (to_here h) n (to_part p))
+    pub finished_to : (n : ℕ) (p : Part) → StepTo (val number) (finished K h n p) (finished K (to_here number h) n (to_part p))
     finished_to n p = finished_as n p.head p.name p.type p.arguments
 
-module _ (M N : Names) (m : AreNames M) (n : AreNames N) (number : ℕ → ℕ) (renumbers : Renumbers M N number) (types : Sub) where
-  abbrev others : Sub
-  others k = renumbered_type number (types k)
+module _ (M N : Names) (m : AreNames M) (n : AreNames N) (number : ℕ → ℕ) (renumbers : Renumbers M N number) (variable : ℕ → ℕ) (types others : Sub) (count : ℕ) (same : (k : ℕ) → k < count → others k ≡ renamed_type number variable (types k)) where
+  -- what stands at a node
+
+  pub written_at : (b : Bool) (e : FlatType) (k : ℕ) → k < count → written_stars N b e (others k) ≡ written_stars M b e (types k)
+  written_at b e k lt = ap (written_stars N b e) (same k lt) ∙ written_same M N m n number renumbers variable b e (types k)
+
+  pub spread_at : (b : Bool) (k : ℕ) → k < count → spread b (others k) ≡ spread b (types k)
+  spread_at b k lt = ap (spread b) (same k lt) ∙ spread_same number variable b (types k)
 
   -- ---- stars of patterns
 
   mutual
     unfolding pattern_stars
 
-    pub pattern_stars_same : (p : FlatPattern) (q : ℕ) → pattern_stars N others p q ≡ pattern_stars M types p q
-    pattern_stars_same (Typed_pattern p e) q = written_same M N m n number renumbers false e (types q)
-    pattern_stars_same (Tuple_pattern ps) q = ap Row (tuple_stars_same ps (1 + q))
-    pattern_stars_same (Record_pattern fs ps) q = record_stars_same fs ps (1 + q) (types q)
-    pattern_stars_same (Bound_pattern b) q = spread_same number false (types q)
-    pattern_stars_same Wild_pattern q = spread_same number false (types q)
+    pub pattern_stars_same : (p : FlatPattern) (q : ℕ) → q + pattern_numbers p ≤ count → pattern_stars N others p q ≡ pattern_stars M types p q
+    pattern_stars_same (Typed_pattern p e) q le = let some : 0 < pattern_numbers p = pattern_some p in written_at false e q (omega (arith, le, some))
+    pattern_stars_same (Tuple_pattern ps) q le = ap Row (tuple_stars_same ps (1 + q) (omega (arith, le)))
+    pattern_stars_same (Record_pattern fs ps) q le = ap (record_stars N others fs ps (1 + q)) (same q (omega (arith, le))) ∙ record_stars_same fs ps (1 + q) (types q) (omega (arith, le))
+    pattern_stars_same (Bound_pattern b) q le = spread_at false q (omega (arith, le))
+    pattern_stars_same Wild_pattern q le = spread_at false q (omega (arith, le))
 
-    tuple_stars_same : (ps : Patterns Ref BindId) (q : ℕ) → tuple_stars N others ps q ≡ tuple_stars M types ps q
-    tuple_stars_same no_pattern q = refl
-    tuple_stars_same (pattern_and p ps) q = λ i. star_and (pattern_stars_same p q i) (tuple_stars_same ps (q + pattern_numbers p) i)
+    tuple_stars_same : (ps : Patterns Ref BindId) (q : ℕ) → q + all_pattern_numbers ps ≤ count → tuple_stars N others ps q ≡ tuple_stars M types ps q
+    tuple_stars_same no_pattern q le = refl
+    tuple_stars_same (pattern_and p ps) q le = λ i. star_and (pattern_stars_same p q (omega (arith, le)) i) (tuple_stars_same ps (q + pattern_numbers p) (omega (arith, le)) i)
 
-    record_stars_same : (fs : List Text) (ps : Patterns Ref BindId) (q : ℕ) (t : Ty) → record_stars N others fs ps q (renumbered_type number t) ≡ record_stars M types fs ps q t
-    record_stars_same (f ∷ fs) (pattern_and p ps) q (Made h ts) = λ i. Row (with_star (place_same M N m n number renumbers f h i) (pattern_stars_same p q i) (row_of (record_stars_same fs ps (q + pattern_numbers p) (Made h ts) i)))
-    record_stars_same (f ∷ fs) (pattern_and p ps) q (Var v) = refl
-    record_stars_same (f ∷ fs) no_pattern q t = spread_same number false t
-    record_stars_same [] ps q t = spread_same number false t
+    record_stars_same : (fs : List Text) (ps : Patterns Ref BindId) (q : ℕ) (t : Ty) → q + all_pattern_numbers ps ≤ count → record_stars N others fs ps q (renamed_type number variable t) ≡ record_stars M types fs ps q t
+    record_stars_same (f ∷ fs) (pattern_and p ps) q (Made h ts) le = λ i. Row (with_star (place_same M N m n number renumbers f h i) (pattern_stars_same p q (omega (arith, le)) i) (row_of (record_stars_same fs ps (q + pattern_numbers p) (Made h ts) (omega (arith, le)) i)))
+    record_stars_same (f ∷ fs) (pattern_and p ps) q (Var v) le = spread_same number variable false (Var v)
+    record_stars_same (f ∷ fs) no_pattern q t le = spread_same number variable false t
+    record_stars_same [] ps q t le = spread_same number variable false t
 
   module _ (naming : Naming) where
     mutual
       unfolding bound
 
-      pub bound_to : (parameter : Bool) (p : FlatPattern) (q : ℕ) (v : Value) (s : Scope) → bound naming N others parameter p q (to_value number v) (to_scope number s) ≡ to_scope number (bound naming M types parameter p q v s)
-      bound_to parameter (Bound_pattern b) q v s = ap (λ w. with_value b.0 w (to_scope number s)) (named_value number naming parameter q b 0 v) ∙ with_value_to number b.0 (named naming parameter q b 0 v) s
-      bound_to parameter Wild_pattern q v s = refl
-      bound_to parameter (Tuple_pattern ps) q (Parts h vs) s = all_bound_to parameter ps (1 + q) vs s
-      bound_to parameter (Tuple_pattern ps) q v s = refl
-      bound_to parameter (Record_pattern fs ps) q v s = fields_bound_to parameter fs ps (1 + q) v s
-      bound_to parameter (Typed_pattern p e) q v s = (λ i. bound naming N others parameter p q ((ap (λ u. ascribed u (to_value number v)) (written_same M N m n number renumbers false e (types q)) ∙ ascribed_value number (written_stars M false e (types q)) v) i) (to_scope number s))
-          ∙ bound_to parameter p q (ascribed (written_stars M false e (types q)) v) s
+      pub bound_to : (parameter : Bool) (p : FlatPattern) (q : ℕ) (v : Value) (s : Scope) → q + pattern_numbers p ≤ count → bound naming N others parameter p q (to_value number v) (to_scope number s) ≡ to_scope number (bound naming M types parameter p q v s)
+      bound_to parameter (Bound_pattern b) q v s le = ap (λ w. with_value b.0 w (to_scope number s)) (named_value number naming parameter q b 0 v) ∙ with_value_to number b.0 (named naming parameter q b 0 v) s
+      bound_to parameter Wild_pattern q v s le = refl
+      bound_to parameter (Tuple_pattern ps) q (Parts h vs) s le = all_bound_to parameter ps (1 + q) vs s (omega (arith, le))
+      bound_to parameter (Tuple_pattern ps) q v s le = refl
+      bound_to parameter (Record_pattern fs ps) q v s le = fields_bound_to parameter fs ps (1 + q) v s (omega (arith, le))
+      bound_to parameter (Typed_pattern p e) q v s le =
+          let some : 0 < pattern_numbers p = pattern_some p in
+          (λ i. bound naming N others parameter p q ((ap (λ u. ascribed u (to_value number v)) (written_at false e q (omega (arith, le, some))) ∙ ascribed_value number (written_stars M false e (types q)) v) i) (to_scope number s))
+          ∙ bound_to parameter p q (ascribed (written_stars M false e (types q)) v) s le
 
-      all_bound_to : (parameter : Bool) (ps : Patterns Ref BindId) (q : ℕ) (vs : Values) (s : Scope) → all_bound naming N others parameter ps q (to_values number vs) (to_scope number s) ≡ to_scope number (all_bound naming M types parameter ps q vs s)
-      all_bound_to parameter (pattern_and p ps) q (value_and v vs) s = ap (all_bound naming N others parameter ps (q + pattern_numbers p) (to_values number vs)) (bound_to parameter p q v s) ∙ all_bound_to parameter ps (q + pattern_numbers p) vs (bound naming M types parameter p q v s)
-      all_bound_to parameter (pattern_and p ps) q no_value s = refl
-      all_bound_to parameter no_pattern q vs s = refl
+      all_bound_to : (parameter : Bool) (ps : Patterns Ref BindId) (q : ℕ) (vs : Values) (s : Scope) → q + all_pattern_numbers ps ≤ count → all_bound naming N others parameter ps q (to_values number vs) (to_scope number s) ≡ to_scope number (all_bound naming M types parameter ps q vs s)
+      all_bound_to parameter (pattern_and p ps) q (value_and v vs) s le = ap (all_bound naming N others parameter ps (q + pattern_numbers p) (to_values number vs)) (bound_to parameter p q v s (omega (arith, le))) ∙ all_bound_to parameter ps (q + pattern_numbers p) vs (bound naming M types parameter p q v s) (omega (arith, le))
+      all_bound_to parameter (pattern_and p ps) q no_value s le = refl
+      all_bound_to parameter no_pattern q vs s le = refl
 
-      fields_bound_to : (parameter : Bool) (fs : List Text) (ps : Patterns Ref BindId) (q : ℕ) (v : Value) (s : Scope) → fields_bound naming N others parameter fs ps q (to_value number v) (to_scope number s) ≡ to_scope number (fields_bound naming M types parameter fs ps q v s)
-      fields_bound_to parameter (f ∷ fs) (pattern_and p ps) q v s = ap (fields_bound naming N others parameter fs ps (q + pattern_numbers p) (to_value number v))
-          ((λ i. bound naming N others parameter p q (part_named_value M N m n number renumbers f v i) (to_scope number s)) ∙ bound_to parameter p q (part_named M f v) s)
-          ∙ fields_bound_to parameter fs ps (q + pattern_numbers p) v (bound naming M types parameter p q (part_named M f v) s)
-      fields_bound_to parameter (f ∷ fs) no_pattern q v s = refl
-      fields_bound_to parameter [] ps q v s = refl
+      fields_bound_to : (parameter : Bool) (fs : List Text) (ps : Patterns Ref BindId) (q : ℕ) (v : Value) (s : Scope) → q + all_pattern_numbers ps ≤ count → fields_bound naming N others parameter fs ps q (to_value number v) (to_scope number s) ≡ to_scope number (fields_bound naming M types parameter fs ps q v s)
+      fields_bound_to parameter (f ∷ fs) (pattern_and p ps) q v s le = ap (fields_bound naming N others parameter fs ps (q + pattern_numbers p) (to_value number v))
+          ((λ i. bound naming N others parameter p q (part_named_value M N m n number renumbers f v i) (to_scope number s)) ∙ bound_to parameter p q (part_named M f v) s (omega (arith, le)))
+          ∙ fields_bound_to parameter fs ps (q + pattern_numbers p) v (bound naming M types parameter p q (part_named M f v) s) (omega (arith, le))
+      fields_bound_to parameter (f ∷ fs) no_pattern q v s le = refl
+      fields_bound_to parameter [] ps q v s le = refl
 
     mutual
       unfolding kept

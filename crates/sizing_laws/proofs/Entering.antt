@@ -1,5 +1,5 @@
 -- Parameters, loops, patterns and what an application notes, by two numberings.
-use Rattle.std.proofs.Common.{◌≡◌, ℕ, zero, suc, ◌+◌, Bool, true, false, ◌||◌, cond, List, [], ◌∷◌, ◌++◌, length, Option, Some, None, refl, sym, ap, ◌∙◌, subst}
+use Rattle.std.proofs.Common.{◌≡◌, ℕ, zero, suc, ◌+◌, ◌≤◌, ◌<◌, arith, Bool, true, false, ◌||◌, cond, List, [], ◌∷◌, ◌++◌, length, Option, Some, None, refl, sym, ap, ◌∙◌, subst}
 use Rattle.fut_ast.specs.Sorts.{Text}
 use Rattle.fut_scalar.specs.declared.place.BindId.{BindId}
 use Rattle.fut_scalar.specs.declared.scalar.ScalarType.{ScalarType}
@@ -7,16 +7,17 @@ use Rattle.fut_flat.specs.declared.prim.Primitive.{Primitive}
 use Rattle.fut_flat.specs.declared.prim.Ref.{Ref}
 use Rattle.fut_flat.specs.declared.prim.Ref.TheVariants as ref
 use Rattle.fut_flat.specs.Terms.{Bound_pattern, Wild_pattern, Tuple_pattern, Record_pattern, Typed_pattern, Patterns, no_pattern, pattern_and, Operation, Binary, Project, Binding}
-use Rattle.fut_flat.specs.Numbers.{pattern_numbers}
+use Rattle.fut_flat.specs.Numbers.{pattern_numbers, all_pattern_numbers}
 use Rattle.fut_flat.specs.Erased.{FlatTerm, FlatPattern}
 use Rattle.fut_primitives.specs.Written.{Written, Variable, Scalar, Own, From, Array, Unique, Pair, Triple, Named, Function}
 use Rattle.fut_primitives.specs.Table.{written, own_of, from_of}
 use Rattle.fut_types.specs.declared.Head.TheVariants as head
 use Rattle.fut_types.specs.Types.{Sub}
 use Rattle.fut_typing.specs.Names.{Names, AreNames}
-use Rattle.sized_types.specs.Sizes.{Own as Own_size, At, Size, Hole, Open, Level, Built, Fun, Sizes, no_size, size_and, levels, renaming, has, takes}
+use Rattle.fut_typing.proofs.Ranges.{pattern_some}
+use Rattle.sized_types.specs.Sizes.{Own as Own_size, Dim, At, Size, Hole, Open, Level, Built, Fun, Sizes, no_size, size_and, levels, renaming, has, takes}
 use Rattle.fut_sizes.specs.Primitives.{Frames, letter, chosen, argument, sized_type, prim_size, is_regular}
-use Rattle.fut_sizes.specs.Agreeing.{no_size_of, names_one, leave, leaving}
+use Rattle.fut_sizes.specs.Agreeing.{of_type, no_size_of, names_one, leave, leaving}
 use Rattle.fut_sizes.specs.WrittenSizes.{part_of, coerced, same_dim, parameter_size}
 use Rattle.fut_sizes.specs.Matching.{Found, nothing_found, read, none_opened, inside, in_opened, data_way, function_way, meet}
 use Rattle.fut_sizes.specs.Scopes.{Known, Scope, with_name, i64_size, used}
@@ -155,12 +156,15 @@ module _ (number : ℕ → ℕ) where
   with_head_alike M N types others [] s r h = h
   with_head_alike M N types others (b ∷ bs) s r h = with_head_alike M N types others bs (with_name b i64_size s) (with_name b i64_size r) (with_name_alike number b i64_size i64_size refl s r h)
 
-module _ (M N : Names) (m : AreNames M) (n : AreNames N) (number : ℕ → ℕ) (renumbers : Renumbers M N number) (types : Sub) where
+module _ (M N : Names) (m : AreNames M) (n : AreNames N) (number : ℕ → ℕ) (renumbers : Renumbers M N number) (types others : Sub) (count : ℕ) (typed : (k : ℕ) → k < count → others k ≡ renumbered_type number (types k)) where
   abbrev go : Size → Size
   go = renumbered number
 
-  abbrev others : Sub
-  others k = renumbered_type number (types k)
+  type_at : (dims : ℕ → Dim) (k : ℕ) → k < count → of_type dims 0 (others k) ≡ go (of_type dims 0 (types k))
+  type_at dims k lt = ap (of_type dims 0) (typed k lt) ∙ of_type_to number dims 0 (types k)
+
+  pub plain_at : (k : ℕ) → k < count → of_type (no_size_of k) 0 (others k) ≡ go (of_type (no_size_of k) 0 (types k))
+  plain_at k lt = type_at (no_size_of k) k lt
 
   mutual
     in_pattern_to : (p : FlatPattern) (t : Size) → in_pattern N others p (go t) ≡ go (in_pattern M types p t)
@@ -185,11 +189,11 @@ module _ (M N : Names) (m : AreNames M) (n : AreNames N) (number : ℕ → ℕ) 
       })
       (enters k.scope f)))
 
-  enter_alike : (lo : ℕ) (p : FlatPattern) (q : ℕ) (w : Option Size) {E F : Entered} → EnteredR number E F → AnswerR (EnteredR number) (enter M types lo p q w E) (enter N others lo p q (if_some number w) F)
-  enter_alike lo p q (Some (Fun k t x)) {E} {F} h =
+  enter_alike : (lo : ℕ) (p : FlatPattern) (q : ℕ) → q < count → (w : Option Size) {E F : Entered} → EnteredR number E F → AnswerR (EnteredR number) (enter M types lo p q w E) (enter N others lo p q (if_some number w) F)
+  enter_alike lo p q lt (Some (Fun k t x)) {E} {F} h =
       let f : FoundR number E.found F.found = found_of h in
       cond_are (AnswerR (EnteredR number)) (is_open t) (is_open (go t)) (is_open_same number t)
-      (entered_alike p q (own_sizes M types q) (own_sizes N others q) (of_type_to number (λ i. At (Own_size q i)) 0 (types q)) (Some (in_opened (inside (open_frame p q k) none_opened) x)) (Some (in_opened (inside (open_frame p q k) none_opened) (go x))) (ap Some (in_opened_to number (inside (open_frame p q k) none_opened) x)) f h)
+      (entered_alike p q (own_sizes M types q) (own_sizes N others q) (type_at (λ i. At (Own_size q i)) q lt) (Some (in_opened (inside (open_frame p q k) none_opened) x)) (Some (in_opened (inside (open_frame p q k) none_opened) (go x))) (ap Some (in_opened_to number (inside (open_frame p q k) none_opened) x)) f h)
       (wanted_alike (in_opened (inside (parameter_frame p q k) none_opened) t) (in_opened (inside (parameter_frame p q k) none_opened) (go t)) (in_opened_to number (inside (parameter_frame p q k) none_opened) t) (in_opened (inside (parameter_frame p q k) none_opened) x) (in_opened (inside (parameter_frame p q k) none_opened) (go x)) (in_opened_to number (inside (parameter_frame p q k) none_opened) x) f)
     where
       found_of : {E F : Entered} → EnteredR number E F → FoundR number E.found F.found
@@ -200,11 +204,11 @@ module _ (M N : Names) (m : AreNames M) (n : AreNames N) (number : ℕ → ℕ) 
           (subst (λ (z : Size × Size). AnswerR (FoundR number) (meet lo data_way lo none_opened (in_pattern M types p t) none_opened t E.found) (meet lo data_way lo none_opened z.0 none_opened z.1 F.found)) (λ i. (sym (ap (in_pattern N others p) e ∙ in_pattern_to p t) i, sym e i))
           (meet_alike number lo data_way lo none_opened (in_pattern M types p t) none_opened t f))
           (λ a b k. entered_alike p q t u e (Some x) (Some y) (ap Some g) k h)
-  enter_alike lo p q w (enters {wanted = wanted} h f) = entered_alike p q (own_sizes M types q) (own_sizes N others q) (of_type_to number (λ i. At (Own_size q i)) 0 (types q)) None None refl f (enters {wanted = wanted} h f)
+  enter_alike lo p q lt w (enters {wanted = wanted} h f) = entered_alike p q (own_sizes M types q) (own_sizes N others q) (type_at (λ i. At (Own_size q i)) q lt) None None refl f (enters {wanted = wanted} h f)
 
-  pub all_entered_alike : (lo : ℕ) (ps : Patterns Ref BindId) (q : ℕ) {E F : Entered} → EnteredR number E F → AnswerR (EnteredR number) (all_entered M types lo ps q E) (all_entered N others lo ps q F)
-  all_entered_alike lo no_pattern q h = gives h
-  all_entered_alike lo (pattern_and p ps) q {E} (enters {wanted = wanted} h f) = then_are _ _ (enter_alike lo p q wanted (enters h f)) (λ a b k. all_entered_alike lo ps (q + pattern_numbers p) k)
+  pub all_entered_alike : (lo : ℕ) (ps : Patterns Ref BindId) (q : ℕ) → q + all_pattern_numbers ps ≤ count → {E F : Entered} → EnteredR number E F → AnswerR (EnteredR number) (all_entered M types lo ps q E) (all_entered N others lo ps q F)
+  all_entered_alike lo no_pattern q le h = gives h
+  all_entered_alike lo (pattern_and p ps) q le {E} (enters {wanted = wanted} h f) = let some : 0 < pattern_numbers p = pattern_some p in then_are _ _ (enter_alike lo p q (omega (arith, le, some)) wanted (enters h f)) (λ a b k. all_entered_alike lo ps (q + pattern_numbers p) (omega (arith, le)) k)
 
   pub matched_alike : (lo : ℕ) (w : Option Want) (t u : Size) → u ≡ go t → {σ τ : Found} → FoundR number σ τ → AnswerR (MetR number) (matched M types lo w t σ) (matched N others lo (want_to number w) u τ)
   unfolding matched
@@ -213,18 +217,21 @@ module _ (M N : Names) (m : AreNames M) (n : AreNames N) (number : ℕ → ℕ) 
 
   -- ---- uses
 
-  use_known_to : (lo : ℕ) (o : Option Known) → use_known N others lo (known_to number o) ≡ go (use_known M types lo o)
-  use_known_to lo (Some k) = by_test k.is_general
+  used_at : (lo : ℕ) → lo < count → (t : Size) → used lo (others lo) (go t) ≡ go (used lo (types lo) t)
+  used_at lo lt t = ap (λ u. used lo u (go t)) (typed lo lt) ∙ used_to number lo (types lo) t
+
+  use_known_to : (lo : ℕ) → lo < count → (o : Option Known) → use_known N others lo (known_to number o) ≡ go (use_known M types lo o)
+  use_known_to lo lt (Some k) = by_test k.is_general
     where
       by_test : (b : Bool) → cond b (used lo (others lo) (go k.size)) (go k.size) ≡ go (cond b (used lo (types lo) k.size) k.size)
-      by_test true = used_to number lo (types lo) k.size
+      by_test true = used_at lo lt k.size
       by_test false = refl
-  use_known_to lo None = of_type_to number (no_size_of lo) 0 (types lo)
+  use_known_to lo lt None = plain_at lo lt
 
-  pub use_alike : (lo : ℕ) (s r : Scope) → ScopeR number s r → (x : Ref) → PartR number (use_of M types lo s x) (use_of N others lo r x)
-  use_alike lo s r h (ref.Bound b) = whole_alike number (ap (use_known N others lo) (h b.0) ∙ use_known_to lo (s b.0))
-  use_alike lo s r h (ref.Prim p) = subst (λ x. PartR number (Applied (used lo (types lo) (prim_size p)) (is_regular p) []) (Applied x (is_regular p) [])) (sym (ap (used lo (others lo)) (prim_size_to number p) ∙ used_to number lo (types lo) (prim_size p))) (applies no_arguments)
-  use_alike lo s r h (ref.Scalar x) = whole_alike number (of_type_to number (no_size_of lo) 0 (types lo))
+  pub use_alike : (lo : ℕ) → lo < count → (s r : Scope) → ScopeR number s r → (x : Ref) → PartR number (use_of M types lo s x) (use_of N others lo r x)
+  use_alike lo lt s r h (ref.Bound b) = whole_alike number (ap (use_known N others lo) (h b.0) ∙ use_known_to lo lt (s b.0))
+  use_alike lo lt s r h (ref.Prim p) = subst (λ x. PartR number (Applied (used lo (types lo) (prim_size p)) (is_regular p) []) (Applied x (is_regular p) [])) (sym (ap (used lo (others lo)) (prim_size_to number p) ∙ used_at lo lt (prim_size p))) (applies no_arguments)
+  use_alike lo lt s r h (ref.Scalar x) = whole_alike number (plain_at lo lt)
 
   -- ---- what is noted
 

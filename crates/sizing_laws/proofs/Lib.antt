@@ -16,3 +16,6 @@ pub mod AliasWalk
 pub mod Typing
 pub mod Counting
 pub mod Ordering
+pub mod Renaming
+pub mod Instances
+pub mod Sources

@@ -13,7 +13,7 @@ use Rattle.fut_types.specs.Types.{Ty, Made, none, more, Sub}
 use Rattle.fut_typing.specs.Names.{Names, AreNames}
 use Rattle.sized_types.specs.Sizes.{Const, At, Size, Level, Sizes, no_size, size_and}
 use Rattle.fut_sizes.specs.Agreeing.{then_do, no_size_of, type_levels, of_type}
-use Rattle.fut_sizes.specs.Operations.{value_of, slice_size, is_literal, is_i64, empty_of, elements_agree, many, indexed, updated, range_of, part_or, element_ty, operation}
+use Rattle.fut_sizes.specs.Operations.{record_of, value_of, slice_size, is_literal, is_i64, empty_of, elements_agree, many, indexed, updated, range_of, part_or, element_ty, operation}
 use Rattle.fut_sizes.specs.WrittenSizes.{part_of}
 use Rattle.sizing_laws.specs.Renumbering.{Renumbers, renumbered_type, renumbered, all_renumbered}
 use Rattle.sizing_laws.proofs.Agreeing.{agree_same, type_levels_same, of_type_to}
@@ -69,28 +69,31 @@ module _ (number : ℕ → ℕ) where
   part_or_to (Some u) t = refl
   part_or_to None t = refl
 
-module _ (M N : Names) (m : AreNames M) (n : AreNames N) (number : ℕ → ℕ) (renumbers : Renumbers M N number) (types : Sub) where
+module _ (M N : Names) (m : AreNames M) (n : AreNames N) (number : ℕ → ℕ) (renumbers : Renumbers M N number) (types others : Sub) (k : ℕ) (typed : others k ≡ renumbered_type number (types k)) where
   abbrev go : Size → Size
   go = renumbered number
 
-  abbrev others : Sub
-  others k = renumbered_type number (types k)
+  plain_to : of_type (no_size_of k) 0 (others k) ≡ go (of_type (no_size_of k) 0 (types k))
+  plain_to = ap (of_type (no_size_of k) 0) typed ∙ of_type_to number (no_size_of k) 0 (types k)
 
-  operation_alike : (o : Operation Ref BindId) (k at : ℕ) (es : Terms Ref BindId) (ts : Sizes) → AnswerR (SizeR number) (operation M types o k at es ts) (operation N others o k at es (all_renumbered number ts))
+  element_here : element_ty (others k) ≡ renumbered_type number (element_ty (types k))
+  element_here = ap element_ty typed ∙ element_to number (types k)
+
+  operation_alike : (o : Operation Ref BindId) (at : ℕ) (es : Terms Ref BindId) (ts : Sizes) → AnswerR (SizeR number) (operation M types o k at es ts) (operation N others o k at es (all_renumbered number ts))
   unfolding operation
-  operation_alike Tuple_of k at es ts = gives refl
-  operation_alike (Record_of fs) k at es ts = gives (record_of_to M N m n number renumbers fs (types k) ts)
-  operation_alike Array_of k at no_term no_size = empty_alike number k (types k)
-  operation_alike Array_of k at (term_and e es) (size_and t ts) = then_same _ _ (elements_same number t es (at + numbers e) ts) (λ z. gives (ap (λ c. Level (At (Const (suc c))) (go t)) (many_same number ts)))
-  operation_alike (Index ps) k at (term_and e es) (size_and t ts) = gives (indexed_to number k 0 ps es t)
-  operation_alike (Project f) k at es (size_and t no_size) = gives ((λ i. part_or (part_of_to M N m n number renumbers f t i) (of_type_to number (no_size_of k) 0 (types k) i)) ∙ part_or_to number (part_of M f t) (of_type (no_size_of k) 0 (types k)))
-  operation_alike Update k at (term_and e es) (size_and t ts) = then_same _ _ (updated_same number es (at + numbers e) ts t) (λ z. gives refl)
-  operation_alike (Replace f) k at es (size_and t (size_and v no_size)) = gives (changed_part_to M N m n number renumbers f (λ u. v) (λ u. go v) (λ u. refl) t)
-  operation_alike (Ascribe e) k at es (size_and t no_size) = ascribed_to M N m n number renumbers at e t
-  operation_alike (Coerce e) k at es (size_and t no_size) = coercion_to M N m n number renumbers at e t
-  operation_alike (Declared e) k at es (size_and t no_size) = declared_to M N m n number renumbers k at e t
-  operation_alike (Range stepped e) k at es ts = gives (λ i. Level (At (range_of ((ap is_i64 (element_to number (types k)) ∙ is_i64_same number (element_ty (types k))) i) k stepped e es)) ((ap (of_type (no_size_of k) 0) (element_to number (types k)) ∙ of_type_to number (no_size_of k) 0 (element_ty (types k))) i))
-  operation_alike o k at es ts = gives (of_type_to number (no_size_of k) 0 (types k))
+  operation_alike Tuple_of at es ts = gives refl
+  operation_alike (Record_of fs) at es ts = gives (ap (λ t. record_of N fs t (all_renumbered number ts)) typed ∙ record_of_to M N m n number renumbers fs (types k) ts)
+  operation_alike Array_of at no_term no_size = subst (λ t. AnswerR (SizeR number) (empty_of k (types k)) (empty_of k t)) (sym typed) (empty_alike number k (types k))
+  operation_alike Array_of at (term_and e es) (size_and t ts) = then_same _ _ (elements_same number t es (at + numbers e) ts) (λ z. gives (ap (λ c. Level (At (Const (suc c))) (go t)) (many_same number ts)))
+  operation_alike (Index ps) at (term_and e es) (size_and t ts) = gives (indexed_to number k 0 ps es t)
+  operation_alike (Project f) at es (size_and t no_size) = gives ((λ i. part_or (part_of_to M N m n number renumbers f t i) (plain_to i)) ∙ part_or_to number (part_of M f t) (of_type (no_size_of k) 0 (types k)))
+  operation_alike Update at (term_and e es) (size_and t ts) = then_same _ _ (updated_same number es (at + numbers e) ts t) (λ z. gives refl)
+  operation_alike (Replace f) at es (size_and t (size_and v no_size)) = gives (changed_part_to M N m n number renumbers f (λ u. v) (λ u. go v) (λ u. refl) t)
+  operation_alike (Ascribe e) at es (size_and t no_size) = ascribed_to M N m n number renumbers at e t
+  operation_alike (Coerce e) at es (size_and t no_size) = coercion_to M N m n number renumbers at e t
+  operation_alike (Declared e) at es (size_and t no_size) = declared_to M N m n number renumbers k at e t
+  operation_alike (Range stepped e) at es ts = gives (λ i. Level (At (range_of ((ap is_i64 element_here ∙ is_i64_same number (element_ty (types k))) i) k stepped e es)) ((ap (of_type (no_size_of k) 0) element_here ∙ of_type_to number (no_size_of k) 0 (element_ty (types k))) i))
+  operation_alike o at es ts = gives plain_to
 
-  pub operated : (o : Operation Ref BindId) (k at : ℕ) (es : Terms Ref BindId) (ts us : Sizes) → us ≡ all_renumbered number ts → AnswerR (SizeR number) (operation M types o k at es ts) (operation N others o k at es us)
-  operated o k at es ts us e = subst (λ vs. AnswerR (SizeR number) (operation M types o k at es ts) (operation N others o k at es vs)) (sym e) (operation_alike o k at es ts)
+  pub operated : (o : Operation Ref BindId) (at : ℕ) (es : Terms Ref BindId) (ts us : Sizes) → us ≡ all_renumbered number ts → AnswerR (SizeR number) (operation M types o k at es ts) (operation N others o k at es us)
+  operated o at es ts us e = subst (λ vs. AnswerR (SizeR number) (operation M types o k at es ts) (operation N others o k at es vs)) (sym e) (operation_alike o at es ts)

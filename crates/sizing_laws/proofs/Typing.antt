@@ -165,7 +165,7 @@ module _ (M N : Names) where
 module _ (M N : Names) (m : AreNames M) (n : AreNames N) (number : ℕ → ℕ) (renumbers : Renumbers M N number) where
   part_kept : (s : Text) (t u : Ty) → HasPart M.shapes (M.label s) t u → HasPart N.shapes (N.label s) (renumbered_type number t) (renumbered_type number u)
   unfolding part_named
-  part_kept s (Made h ts) u e = (λ i. part_at (place_same M N m n number renumbers s h i) (renumbered_types number ts)) ∙ part_at_to number (place M.shapes (M.label s) h) ts ∙ ap (if_type number) e
+  part_kept s (Made h ts) u e = (λ i. part_at (place_same M N m n number renumbers s h i) (renumbered_types number ts)) ∙ part_at_to number (λ v. v) (place M.shapes (M.label s) h) ts ∙ ap (if_type number (λ v. v)) e
   part_kept s (Var v) u e = absurd cc
 
   parts_kept : (fs : List Text) (t : Ty) (us : Tys) → Parts_named M fs t us → Parts_named N fs (renumbered_type number t) (renumbered_types number us)

@@ -1,6 +1,6 @@
 -- Two numberings of names in which each record has its parts in one order: each record of the one is a record of the other, with
 -- the same names in the same places. Types and sized types by the one become types and sized types by the other, where the
--- numbers of records alone are changed.
+-- numbers of records alone are changed; or types with other names for their variables too.
 use Rattle.std.specs.Prelude.{◌≡◌, ◌↔◌, ℕ, List, [], ◌∷◌, Ok, Err}
 use Rattle.std.specs.List.{Contains}
 use Rattle.fut_ast.specs.Sorts.{Text}
@@ -43,21 +43,31 @@ module _ (number : ℕ → ℕ) where
   renumbered_head (head.Rigid n k) = head.Rigid n k
   renumbered_head (head.Abstract n d) = head.Abstract n d
 
-  abbrev mutual
-    pub renumbered_type : Ty → Ty
-    renumbered_type (Var v) = Var v
-    renumbered_type (Made h ts) = Made (renumbered_head h) (renumbered_types ts)
+-- ---- and with other names for variables
 
-    pub renumbered_types : Tys → Tys
-    renumbered_types none = none
-    renumbered_types (more t ts) = more (renumbered_type t) (renumbered_types ts)
+module _ (number variable : ℕ → ℕ) where
+  abbrev mutual
+    pub renamed_type : Ty → Ty
+    renamed_type (Var v) = Var (variable v)
+    renamed_type (Made h ts) = Made (renumbered_head number h) (renamed_types ts)
+
+    pub renamed_types : Tys → Tys
+    renamed_types none = none
+    renamed_types (more t ts) = more (renamed_type t) (renamed_types ts)
+
+module _ (number : ℕ → ℕ) where
+  abbrev pub renumbered_type : Ty → Ty
+  renumbered_type = renamed_type number (λ v. v)
+
+  abbrev pub renumbered_types : Tys → Tys
+  renumbered_types = renamed_types number (λ v. v)
 
   abbrev mutual
     pub renumbered : Size → Size
     renumbered (Hole v) = Hole v
     renumbered (Open n v u) = Open n v (renumbered_type u)
     renumbered (Level d t) = Level d (renumbered t)
-    renumbered (Built h ts) = Built (renumbered_head h) (all_renumbered ts)
+    renumbered (Built h ts) = Built (renumbered_head number h) (all_renumbered ts)
     renumbered (Fun k p r) = Fun k (renumbered p) (renumbered r)
 
     pub all_renumbered : Sizes → Sizes

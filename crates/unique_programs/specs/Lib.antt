@@ -4,3 +4,4 @@ pub mod Misuses
 pub mod Sizes
 pub mod Layers
 pub mod Shown
+pub mod Giving

@@ -8,6 +8,7 @@ ghost use Rattle.fut_types.specs.Types.{Ty};
 ghost use Rattle.type_infer.specs.Reading.{Comes_to};
 ghost use Rattle.unique_programs.specs.Layers.{Are_made, Inside, Is_made_of, Is_type, Row_made, sized_at, tree_at};
 
+use crate::given::is_given;
 use crate::sizes::{ONE, Size};
 use alias_values::TypeTree;
 use bumpalo::Bump;
@@ -261,12 +262,17 @@ fn none_made<'a>(alloc: Global, nodes: &List<Node>) -> Result<List<Option<SizedT
     Ok(made)
 }
 
-/// Whether the types of the first nodes are within the limits together.
-fn are_within(made: &List<Option<SizedTree<'_>>>, count: u32) -> bool
-    requires { count ≤ length made.now }
+/// Whether the types of the first nodes are within the limits together. One that the next node's gives is counted with that.
+fn are_within(nodes: &List<Node>, made: &List<Option<SizedTree<'_>>>, count: u32) -> bool
+    requires graph { IsGraph nodes.now }
+    requires long { length made.now ≡ length nodes.now }
+    requires count { count ≤ length nodes.now }
 {
     let mut all = ONE;
     for at in 0..count {
+        if at < count - 1 && is_given(nodes, at) {
+            continue;
+        }
         if let Some(sized) = sized_at(made, at) {
             all = all.with_part(sized.size);
         }
@@ -293,7 +299,7 @@ pub fn type_trees<'a>(
         wait_for(&made, at, &mut waiting)?;
         make_waiting(bump, nodes, &mut made, &mut waiting)?;
     }
-    if !are_within(&made, count) {
+    if !are_within(nodes, &made, count) {
         return Err(NoMemory);
     }
     row_of_made(bump, &made, 0, count)

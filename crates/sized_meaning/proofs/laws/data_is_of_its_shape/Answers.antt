@@ -1,4 +1,4 @@
-use Rattle.sized_meaning.proofs.Misfits.{data_is_of_its_shape}
+use Rattle.sized_meaning.proofs.Alone.{data_is_of_its_shape}
 use Rattle.sized_meaning.proofs.laws.data_is_of_its_shape.Goals as goal
 
 pub returns : goal.returns

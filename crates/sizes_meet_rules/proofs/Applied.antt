@@ -1,0 +1,465 @@
+-- An application of a name or a primitive to all of its arguments meets the rules where these do.
+use Rattle.std.proofs.Common.{◌≡◌, ◌⊎◌, ℕ, suc, ◌+◌, ◌<◌, ◌≤◌, List, [], ◌∷◌, ◌++◌, Bool, true, false, Option, Some, None, Ok, refl, sym, ap, ◌∙◌, subst, arith, inl, inr}
+use Rattle.std.specs.Prelude.{length}
+use Rattle.fut_flat.specs.declared.prim.Ref.TheVariants as ref
+use Rattle.fut_flat.specs.Numbers.{numbers}
+use Rattle.fut_flat.specs.Terms.{Use, Apply}
+use Rattle.fut_flat.specs.Erased.{FlatTerm}
+use Rattle.fut_types.specs.declared.Kind.{Kind}
+use Rattle.fut_types.specs.Types.{Ty, fun_ty, Sub, Kinds, HasKind, rank, level}
+use Rattle.fut_typing.specs.Names.{Names}
+use Rattle.sized_types.specs.Sizes.{Free, Const, Name, Own, Unknown, Slot, Dim, At, Bound, Variable, Size, Hole, Open, Level, Built, Fun, Sizes, no_size, size_and, erased, renamed}
+use Rattle.fut_sizes.specs.Applications.{Later, Argument, Part, Applied, is_arrow, uses}
+use Rattle.fut_sizes.specs.Functions.{is_slot, unknown_slot}
+use Rattle.fut_sizes.specs.Matching.{Found, nothing_found, found_size, found_dim, read, all_read, Opened, none_opened, dim_in, in_opened}
+use Rattle.fut_sizes.specs.Rules.{Each_hole, Sized}
+use Rattle.fut_sizes.specs.Scopes.{Scope}
+use Rattle.fut_sizes.specs.Scoping.{Context}
+use Rattle.fut_sizes.specs.Sizing.{finished}
+use Rattle.fut_sizes.specs.Steps.{State, Done, at_node}
+use Rattle.fut_sizes.specs.Suiting.{Each, Data}
+use Rattle.sizes_meet_rules.specs.Known.{Says, Judged, Elsewhere}
+use Rattle.sizes_meet_rules.proofs.Applying.{no_arrow, read_twice}
+use Rattle.sizes_meet_rules.proofs.Chains.{Given, arguments, Takes_all, widened, widened_widths, here, opened_by, after, wants, laters, last_opened, last_size, last_goes, last_found, Matched_ran, last_slots, arrows_of, argument_by, All_plain, Reads, Kept, met_all}
+use Rattle.sizes_meet_rules.proofs.Frames.{Okay, none_meant, by_itself, Frames, not_filled, Framed}
+use Rattle.sizes_meet_rules.proofs.Meeting.{at_itself, at_another, With_met, met_settled}
+use Rattle.sizes_meet_rules.proofs.Noting.{within_avoids, Placed, placed_order, Avoids, Within, Right, noting, noting_other, noting_right, right_as, right_first, right_later, both_closed, both_avoid, both_within, both_distinct, laters_avoid, laters_within, laters_distinct, laters_closed, uses_avoid, uses_within, uses_distinct, uses_closed, met_noted_is, ended, Stages, Unnamed, stages}
+use Rattle.sizes_meet_rules.proofs.Reading.{found_settled}
+use Rattle.sizes_meet_rules.proofs.Replacing.{hole_as}
+use Rattle.sizes_meet_rules.proofs.Settling.{Any_variable}
+use Rattle.sizes_meet_rules.proofs.Showing.{Law_of}
+use Rattle.sizes_meet_rules.proofs.Chains.{grown}
+use Rattle.fut_sizes.specs.Levels.{levels_within}
+use Rattle.fut_sizes.specs.Applications.{Want, Met}
+use Rattle.fut_sizes.specs.Steps.{Step}
+use Rattle.sizes_meet_rules.proofs.Meeting.{Meets}
+use Rattle.sizes_meet_rules.proofs.Heads.{Head, Primitive_head, Resolved, resolved, primitive_lambda}
+use Rattle.sizes_meet_rules.proofs.Parts.{spine, all_some, Data_meets, Lambda_waits, All_given, One_waits, All_parts, below, none_dropped, not_in_outside, Later_part, all_plain, all_fit, Last_says, last_says, Inner_nodes, nodes_of, stage_here, rules_all}
+use Rattle.sizes_meet_rules.proofs.Later.{sized_by, state_by, Went_by, sized_arguments, sized_arrows, sized_spine, sized_placed, sized_widths, data_parts, one_parts, none_later, one_later, one_given}
+use Rattle.sizes_meet_rules.proofs.Spines.{Spine, Spine_law}
+
+-- what is read does not hang on the numbers that are taken
+module _ (lo : ℕ) (In P : Free → Type 0) (no_slot : (d : Free) → In d → is_slot d ≡ false) (settled : (d : Free) → P d → is_slot d ≡ false) (σ : Found) (n : ℕ) (m : ℕ → ℕ) where
+  grown_dim : (d : Dim) → found_dim (grown lo σ n m) 0 d ≡ found_dim σ 0 d
+  grown_dim (At (Slot i)) = refl
+  grown_dim (At (Const c)) = refl
+  grown_dim (At (Name c)) = refl
+  grown_dim (At (Own k i)) = refl
+  grown_dim (At (Unknown k i)) = refl
+  grown_dim (Bound k i) = refl
+
+  mutual
+    unfolding read all_read
+
+    grown_read : (t : Size) → read (grown lo σ n m) t ≡ read σ t
+    grown_read (Hole v) = refl
+    grown_read (Open k v u) = refl
+    grown_read (Level d t) = ap (λ e. Level e (read (grown lo σ n m) t)) (grown_dim d) ∙ ap (Level (found_dim σ 0 d)) (grown_read t)
+    grown_read (Built h ts) = ap (Built h) (all_grown_read ts)
+    grown_read (Fun k p r) = ap (λ x. Fun k x (read (grown lo σ n m) r)) (grown_read p) ∙ ap (Fun k (read σ p)) (grown_read r)
+
+    all_grown_read : (ts : Sizes) → all_read (grown lo σ n m) ts ≡ all_read σ ts
+    all_grown_read no_size = refl
+    all_grown_read (size_and t ts) = ap (λ x. size_and x (all_read (grown lo σ n m) ts)) (grown_read t) ∙ ap (size_and (read σ t)) (all_grown_read ts)
+
+  reads_grown : (gs : List Given) (φ : Opened) (t : Size) (υ : Found) → Reads lo In P no_slot settled gs φ t υ σ → Reads lo In P no_slot settled gs φ t υ (grown lo σ n m)
+  reads_grown [] φ t υ h = tt
+  reads_grown (g ∷ gs) φ (Fun k p r) υ h = (grown_read (in_opened (opened_by lo gs g υ k φ) p) ∙ h.0, reads_grown gs (opened_by lo gs g υ k φ) r (after lo gs g υ k) h.1)
+  reads_grown (g ∷ gs) φ (Hole v) υ h = tt
+  reads_grown (g ∷ gs) φ (Open k v u) υ h = tt
+  reads_grown (g ∷ gs) φ (Level d t) υ h = tt
+  reads_grown (g ∷ gs) φ (Built f ts) υ h = tt
+
+module _ (N : Names) (types : Sub) (home : ℕ → ℕ) (K : Kinds) (places : Kind) (data_places : 1 ≤ level places) where
+  -- ---- with the numbers that are kept for each result
+
+  wide_argument : (g : Given) (m : ℕ) (o : Option (Option Want → Found → Step Met)) → argument_by o (record { node = g.node; value = g.value; named = g.named; size = g.size; term = g.term; width = m; waits = g.waits }) ≡ argument_by o g
+  wide_argument g m None = refl
+  wide_argument g m (Some f) = refl
+
+  wide_arguments : (gs : List Given) (t : Size) → arguments (widened gs t) ≡ arguments gs
+  wide_arguments [] t = refl
+  wide_arguments (g ∷ gs) (Fun k p r) = ap (λ a. a ∷ arguments (widened gs r)) (wide_argument g (levels_within r) g.waits) ∙ ap (λ xs. argument_by g.waits g ∷ xs) (wide_arguments gs r)
+  wide_arguments (g ∷ gs) (Hole v) = refl
+  wide_arguments (g ∷ gs) (Open m v u) = refl
+  wide_arguments (g ∷ gs) (Level d t) = refl
+  wide_arguments (g ∷ gs) (Built f ts) = refl
+
+  wide_arrows : (gs : List Given) (t : Size) (u : Ty) → arrows_of types (widened gs t) u ≡ arrows_of types gs u
+  wide_arrows [] t u = refl
+  wide_arrows (g ∷ gs) (Fun k p r) u = ap (fun_ty (types g.node)) (wide_arrows gs r u)
+  wide_arrows (g ∷ gs) (Hole v) u = refl
+  wide_arrows (g ∷ gs) (Open m v w) u = refl
+  wide_arrows (g ∷ gs) (Level d t) u = refl
+  wide_arrows (g ∷ gs) (Built f ts) u = refl
+
+  wide_spines : (f : FlatTerm) (gs : List Given) (t : Size) → spine f (widened gs t) ≡ spine f gs
+  wide_spines f [] t = refl
+  wide_spines f (g ∷ gs) (Fun k p r) = wide_spines (Apply f g.term) gs r
+  wide_spines f (g ∷ gs) (Hole v) = refl
+  wide_spines f (g ∷ gs) (Open m v u) = refl
+  wide_spines f (g ∷ gs) (Level d t) = refl
+  wide_spines f (g ∷ gs) (Built h ts) = refl
+
+  wide_placed : (gs : List Given) (t : Size) (from hi : ℕ) → Placed gs from hi → Placed (widened gs t) from hi
+  wide_placed [] t from hi p = p
+  wide_placed (g ∷ gs) (Fun k x r) from hi p = (p.0, wide_placed gs r (from + numbers g.term) hi p.1)
+  wide_placed (g ∷ gs) (Hole v) from hi p = p
+  wide_placed (g ∷ gs) (Open m v u) from hi p = p
+  wide_placed (g ∷ gs) (Level d t) from hi p = p
+  wide_placed (g ∷ gs) (Built f ts) from hi p = p
+
+  module _ (In : Free → Type 0) (Vars : Variable → Type 0) (scope : Scope) where
+    wide_data : (g : Given) (m : ℕ) (st mid : State) → Data_meets N types home K places data_places In Vars scope g st mid → Data_meets N types home K places data_places In Vars scope (record { node = g.node; value = g.value; named = g.named; size = g.size; term = g.term; width = m; waits = g.waits }) st mid
+    wide_data g m st mid h = (record { value_is = h.0.value_is; inner = h.0.inner; noted = h.0.noted; value_known = h.0.value_known }, h.1)
+
+    wide_given : (gs : List Given) (t : Size) (st A : State) → All_given N types home K places data_places In Vars scope gs st A → All_given N types home K places data_places In Vars scope (widened gs t) st A
+    wide_given [] t st A h = h
+    wide_given (g ∷ gs) (Fun k p r) st A h = (h.0, (wide_data g (levels_within r) st h.0 h.1.0, wide_given gs r h.0 A h.1.1))
+    wide_given (g ∷ gs) (Hole v) st A h = h
+    wide_given (g ∷ gs) (Open m v u) st A h = h
+    wide_given (g ∷ gs) (Level d t) st A h = h
+    wide_given (g ∷ gs) (Built f ts) st A h = h
+
+    wide_lambda : (g : Given) (m : ℕ) → Lambda_waits N types home K places data_places In Vars scope g → Lambda_waits N types home K places data_places In Vars scope (record { node = g.node; value = g.value; named = g.named; size = g.size; term = g.term; width = m; waits = g.waits })
+    wide_lambda g m h = record { st = h.st; part = h.part; waits = h.waits; waits_is = h.waits_is; value = h.value; named = h.named; plain = h.plain }
+
+    wide_waits : (gs : List Given) (t : Size) (st A : State) → One_waits N types home K places data_places In Vars scope gs st A → One_waits N types home K places data_places In Vars scope (widened gs t) st A
+    wide_waits [] t st A h = absurd h
+    wide_waits (g ∷ gs) (Fun k p r) st A (inl h) = inl (h.0, (wide_data g (levels_within r) st h.0 h.1.0, wide_waits gs r h.0 A h.1.1))
+    wide_waits (g ∷ gs) (Fun k p r) st A (inr h) = inr (wide_lambda g (levels_within r) h.0, wide_given gs r st A h.1)
+    wide_waits (g ∷ gs) (Hole v) st A h = h
+    wide_waits (g ∷ gs) (Open m v u) st A h = h
+    wide_waits (g ∷ gs) (Level d t) st A h = h
+    wide_waits (g ∷ gs) (Built f ts) st A h = h
+
+  -- ---- it is applied to all of them
+
+  abbrev Nonempty : List Given → Type 0
+  Nonempty [] = ⊥
+  Nonempty (g ∷ gs) = Unit {0}
+
+  no_arrow_left : (lo : ℕ) (gs : List Given) (b : Bool) (t : Size) → Nonempty gs → Takes_all gs t → last_goes lo gs b t ≡ false
+  no_arrow_left lo [] b t n h = absurd n
+  no_arrow_left lo (g ∷ []) b (Fun k p r) n h = no_arrow r h.1
+  no_arrow_left lo (g ∷ x ∷ gs) b (Fun k p r) n h = no_arrow_left lo (x ∷ gs) (is_arrow r) r tt h.1
+  no_arrow_left lo (g ∷ gs) b (Hole v) n h = absurd h
+  no_arrow_left lo (g ∷ gs) b (Open m v u) n h = absurd h
+  no_arrow_left lo (g ∷ gs) b (Level d t) n h = absurd h
+  no_arrow_left lo (g ∷ gs) b (Built f ts) n h = absurd h
+
+  last_data : (lo : ℕ) (gs : List Given) (t : Size) → Takes_all gs t → Data (last_size lo gs t)
+  last_data lo [] t h = h
+  last_data lo (g ∷ gs) (Fun k p r) h = last_data lo gs r h.1
+  last_data lo (g ∷ gs) (Hole v) h = absurd h
+  last_data lo (g ∷ gs) (Open m v u) h = absurd h
+  last_data lo (g ∷ gs) (Level d t) h = absurd h
+  last_data lo (g ∷ gs) (Built f ts) h = absurd h
+
+  module _ (In : Free → Type 0) (Vars : Variable → Type 0) (scope : Scope) (f : FlatTerm) (lo : ℕ) (E : Elsewhere N types home lo (lo + numbers f) In) (term : FlatTerm) (term_some : 1 ≤ numbers term) (gs : List Given) (is : f ≡ spine term gs) (placed : Placed gs (lo + length (arguments gs) + numbers term) (lo + numbers f)) (some : Nonempty gs) (u : Done Size)
+      (t : Size) (says : Says (With_met In (lo + length (arguments gs) + numbers term) (lo + numbers f)) Vars t) (size_typed : erased t ≡ arrows_of types gs (types lo)) (takes : Takes_all gs t) (M : Matched_ran lo N types gs t u) (rule : (m : ℕ) (s : ℕ → Size) (G : Context) → Judged In Vars scope G → s m ≡ t → Sized N types s home term m G)
+      (st A : State) (parts : All_parts N types home K places data_places In Vars scope A M.after gs st A) (later : Later_part N types home K places data_places In Vars scope A M.after gs) where
+    abbrev B : State
+    B = M.after
+
+    abbrev first : ℕ
+    first = lo + length (arguments gs) + numbers term
+
+    abbrev hi : ℕ
+    hi = lo + numbers f
+
+    from_lo : lo ≤ first
+    from_lo = omega arith
+
+    head_some : 1 ≤ numbers term
+    head_some = term_some
+
+    room : first ≤ hi
+    room = placed_order gs first hi placed
+
+    abbrev Known_in : Free → Type 0
+    Known_in x = With_met In first hi x
+
+    known_settled : (x : Free) → Known_in x → is_slot x ≡ false
+    known_settled x = met_settled N types home In lo hi first hi E x
+
+    any_holes : Each_hole Any_variable t
+    any_holes = hole_as Vars Any_variable (λ v i. tt) t says.variables
+
+    plain_given : All_plain lo Known_in Known_in known_settled known_settled gs
+    plain_given = all_plain N types home K places data_places In Vars scope lo first hi E from_lo A B gs st A first (omega arith) placed parts
+
+    abbrev τ : Found
+    τ = grown lo M.first M.next M.maker
+
+    no_frames : Frames
+    no_frames j i = Const 0
+
+    unframed : Framed none_opened none_meant no_frames
+    unframed j i l = absurd l
+
+    meant : Each (Okay Known_in none_meant) 0 t
+    meant = by_itself Known_in t says.sizes
+
+    matched_first : Reads lo Known_in Known_in known_settled known_settled gs none_opened t nothing_found M.first × Kept lo Known_in Known_in known_settled known_settled (last_found lo gs t nothing_found) M.first
+    matched_first = met_all lo Known_in Known_in known_settled known_settled gs none_opened t nothing_found none_meant no_frames unframed takes meant says.formed plain_given (last_found lo gs t nothing_found) M.first M.met
+
+    matched : Reads lo Known_in Known_in known_settled known_settled gs none_opened t nothing_found τ
+    matched = reads_grown lo Known_in Known_in known_settled known_settled M.first M.next M.maker gs none_opened t nothing_found matched_first.0
+
+    slots : (i : ℕ) → (τ.size i ≡ Slot i) ⊎ Known_in (τ.size i)
+    slots = matched_first.1.slots (last_slots lo Known_in Known_in known_settled known_settled gs t nothing_found (λ i. inl refl))
+
+    makers : (x : ℕ) → x < (last_found lo gs t nothing_found).next → τ.maker x ≡ (last_found lo gs t nothing_found).maker x
+    makers x l = M.makers x (let e = matched_first.1.next in omega (arith, l, e)) ∙ matched_first.1.maker x l
+
+    twice : (x : Free) → found_size τ (found_size τ x) ≡ found_size τ x
+    twice (Slot i) = by_slot (slots i)
+      where
+        by_slot : (τ.size i ≡ Slot i) ⊎ Known_in (τ.size i) → found_size τ (τ.size i) ≡ τ.size i
+        by_slot (inl z) = ap (found_size τ) z
+        by_slot (inr w) = found_settled τ (τ.size i) (known_settled (τ.size i) w)
+    twice (Const c) = refl
+    twice (Name c) = refl
+    twice (Own n c) = refl
+    twice (Unknown n c) = refl
+
+    abbrev read_size : Size
+    read_size = read τ (in_opened (last_opened lo gs none_opened t nothing_found) (last_size lo gs t))
+
+    read_again : (read τ read_size ≡ read_size) × Each_hole Any_variable read_size
+    read_again = read_twice τ (dim_in (last_opened lo gs none_opened t nothing_found)) twice (last_size lo gs t) (last_data lo gs t takes)
+
+    abbrev all_laters : List Later
+    all_laters = laters lo gs none_opened t nothing_found ++ uses (wants lo gs none_opened t nothing_found)
+
+    abbrev made : Size
+    made = renamed (unknown_slot τ.maker) (read τ read_size)
+
+    now : u ≡ record { result = made; state = record { nodes = at_node lo made (noting N types τ all_laters B.nodes); dropped = B.dropped } }
+    now = met_noted_is N types τ lo read_size all_laters (last_goes lo gs true t) B u (no_arrow_left lo gs true t some takes) read_again.1
+        (both_closed N types τ (laters lo gs none_opened t nothing_found) (uses (wants lo gs none_opened t nothing_found)) (laters_closed N types τ lo gs none_opened t nothing_found any_holes) (uses_closed N types τ lo gs none_opened t nothing_found any_holes)) M.noted
+
+    node_here : u.state.nodes lo ≡ made
+    node_here = ap (λ (x : Done Size). x.state.nodes lo) now ∙ at_itself lo made (noting N types τ all_laters B.nodes)
+
+    node_else : (x : ℕ) → (lo ≡ x → ⊥) → u.state.nodes x ≡ noting N types τ all_laters B.nodes x
+    node_else x h = ap (λ (x' : Done Size). x'.state.nodes x) now ∙ at_another lo x made (noting N types τ all_laters B.nodes) h
+
+    all_within : Within N types τ (suc lo) hi all_laters
+    all_within = both_within N types τ (suc lo) hi (laters lo gs none_opened t nothing_found) (uses (wants lo gs none_opened t nothing_found)) (laters_within N types τ lo gs none_opened t nothing_found hi (let a = head_some in let b = room in omega (arith, a, b)))
+        (uses_within N types τ lo gs none_opened t nothing_found (suc lo) first hi (all_some gs) placed (let a = head_some in omega (arith, a)))
+
+    all_right : Right N types τ all_laters (noting N types τ all_laters B.nodes)
+    all_right = noting_right N types τ all_laters B.nodes (both_distinct N types τ (suc lo) first (laters lo gs none_opened t nothing_found) (uses (wants lo gs none_opened t nothing_found)) (laters_distinct N types τ lo gs none_opened t nothing_found)
+        (laters_within N types τ lo gs none_opened t nothing_found first (let a = head_some in omega (arith, a))) (uses_distinct N types τ lo gs none_opened t nothing_found first hi (all_some gs) placed) (λ x l. uses_avoid N types τ lo gs none_opened t nothing_found first hi x placed l))
+
+    module _ (s : ℕ → Size) (agrees : (x : ℕ) → lo ≤ x → x < hi → s x ≡ u.state.nodes x) where
+      right_here : Right N types τ all_laters s
+      right_here = right_as N types τ (suc lo) hi all_laters s (noting N types τ all_laters B.nodes) all_within (λ x l l'. agrees x (omega (arith, l)) l' ∙ node_else x (λ z. omega (arith, z, l))) all_right
+
+      behind_all : (x : ℕ) → first ≤ x → x < hi → Avoids N types τ x (uses (wants lo gs none_opened t nothing_found)) → s x ≡ B.nodes x
+      behind_all x l l' v = let a = head_some in agrees x (omega (arith, l)) l' ∙ node_else x (λ z. omega (arith, z, l, a))
+          ∙ noting_other N types τ all_laters B.nodes x (both_avoid N types τ x (laters lo gs none_opened t nothing_found) (uses (wants lo gs none_opened t nothing_found)) (laters_avoid N types τ lo gs none_opened t nothing_found x (omega (arith, l, a))) v)
+
+      stages_here : Unnamed N types τ lo Known_in known_settled gs s → Stages N types τ lo Known_in known_settled gs no_frames t nothing_found s
+      stages_here unnamed = (stages N types τ lo Known_in known_settled Known_in known_settled gs none_opened t nothing_found none_meant no_frames unframed takes meant says.formed any_holes plain_given matched s
+          (right_first N types τ (laters lo gs none_opened t nothing_found) (uses (wants lo gs none_opened t nothing_found)) s right_here) (right_later N types τ (laters lo gs none_opened t nothing_found) (uses (wants lo gs none_opened t nothing_found)) s right_here) unnamed
+          (let a = room in let b = head_some in agrees lo (omega arith) (omega (arith, a, b)) ∙ node_here ∙ ap (renamed (unknown_slot τ.maker)) read_again.0)).0
+
+    nodes_here : (s : ℕ → Size) → ((x : ℕ) → lo ≤ x → x < hi → s x ≡ u.state.nodes x) → Unnamed N types τ lo Known_in known_settled gs s × Inner_nodes N types home K places data_places In Vars scope lo first hi E from_lo A B τ slots s room gs st A parts
+    nodes_here s agrees = nodes_of N types home K places data_places In Vars scope lo first hi E from_lo A B τ slots s room gs none_opened t nothing_found st A first takes placed parts (λ x l l' o. later.nodes x o) (λ x l l' v. behind_all s agrees x l l' v)
+
+    spine_rules : (s : ℕ → Size) (G : Context) → Judged In Vars scope G → ((x : ℕ) → lo ≤ x → x < hi → s x ≡ u.state.nodes x) → Sized N types s home f lo G
+    spine_rules s G J agrees =
+        let a = head_some in
+        let nodes = nodes_here s agrees in
+        let staged = stages_here s agrees nodes.0 in
+        let at_head : s (here lo gs) ≡ t = stage_here N types home K places data_places In Vars scope lo first hi E from_lo A B τ slots gs no_frames t nothing_found s takes staged ∙ not_filled Known_in (ended N types τ lo no_frames) t says.sizes in
+        subst (λ h. Sized N types s home h lo G) (sym is)
+        (rules_all N types home K places data_places In Vars scope lo first hi E from_lo A B τ slots s G J room gs no_frames none_meant t nothing_found term st A first takes meant says.formed (λ j i l. absurd l) (omega (arith, a)) (omega arith) refl placed parts makers staged nodes.1
+        (rule (here lo gs) s G J at_head))
+
+    no_more : (x : ℕ) → (x < lo) ⊎ (hi ≤ x) → lo ≡ x → ⊥
+    no_more x (inl l) z = omega (arith, l, z)
+    no_more x (inr l) z = let a = head_some in let b = room in omega (arith, l, z, a, b)
+
+    beyond : (x : ℕ) → (x < lo) ⊎ (hi ≤ x) → (x < first) ⊎ (hi ≤ x)
+    beyond x (inl l) = let a = head_some in inl (omega (arith, l, a))
+    beyond x (inr l) = inr l
+
+    above : (x : ℕ) → (x < lo) ⊎ (hi ≤ x) → (x < suc lo) ⊎ (hi ≤ x)
+    above x (inl l) = inl (omega (arith, l))
+    above x (inr l) = inr l
+
+    last : Last_says N types home K places data_places In Vars scope lo first hi E from_lo A B τ slots (types lo) (u.state.nodes lo)
+    last = last_says N types home K places data_places In Vars scope lo first hi E from_lo A B τ slots gs no_frames none_meant t nothing_found st A first (types lo) takes meant says.variables says.formed size_typed (λ j i l. absurd l) room (let a = head_some in omega (arith, a)) placed parts makers u.state.nodes
+        (stages_here u.state.nodes (λ x l l'. refl) (nodes_here u.state.nodes (λ x l l'. refl)).0)
+
+    result_here : u.state.nodes lo ≡ u.result
+    result_here = node_here ∙ sym (ap (λ (x : Done Size). x.result) now)
+
+    pub spine_meets : Meets N types home In Vars scope f lo hi st u.result u.state
+    spine_meets = record {
+      says = subst (λ w. Says (With_met In lo hi) Vars w) result_here last.says;
+      typed = ap erased (sym result_here) ∙ last.typed;
+      here = result_here;
+      kept = λ x o. node_else x (λ z. no_more x o z) ∙ noting_other N types τ all_laters B.nodes x (within_avoids N types τ (suc lo) hi all_laters x (above x o) all_within) ∙ later.nodes x (not_in_outside N types home K places data_places In Vars scope gs first hi placed x (beyond x o)) ∙ below N types home K places data_places In Vars scope A B gs st A first hi placed parts x (beyond x o);
+      dropped = λ x o. ap (λ (x' : Done Size). x'.state.dropped x) now ∙ later.dropped x (not_in_outside N types home K places data_places In Vars scope gs first hi placed x (beyond x o)) ∙ none_dropped N types home K places data_places In Vars scope A B gs st A first hi placed parts x (beyond x o);
+      rules = λ s G J agrees. spine_rules s G J agrees;
+    }
+
+  -- ---- an application
+
+  -- the first argument, and those behind it
+  record First (gs : List Given) : Type 0 where
+    argument : Argument
+    others : List Argument
+    is : arguments gs ≡ argument ∷ others
+    some : Nonempty gs
+
+  some_given : (f e h : FlatTerm) (gs : List Given) → (Apply f e ≡ h → ⊥) → Apply f e ≡ spine h gs → First gs
+  some_given f e h [] n z = absurd (n z)
+  some_given f e h (g ∷ gs) n z = record { argument = argument_by g.waits g; others = arguments gs; is = refl; some = tt }
+
+  module _ (In : Free → Type 0) (Vars : Variable → Type 0) (scope : Scope) where
+    sized_some : (gs : List Given) (st A : State) (h : One_waits N types home K places data_places In Vars scope gs st A) → Nonempty gs → Nonempty (sized_by N types home K places data_places In Vars scope gs st A h)
+    sized_some [] st A h s = absurd s
+    sized_some (g ∷ gs) st A (inl h) s = tt
+    sized_some (g ∷ gs) st A (inr h) s = tt
+
+    module _ (f : FlatTerm) (lo : ℕ) (st : State) (d : Done Part) (S : Spine N types home K places data_places false In Vars scope f lo st d) (E : Elsewhere N types home lo (lo + numbers f) In) (kind : HasKind K places (types lo)) (some : Nonempty S.given) (u : Done Size) (q : finished N types lo d.result d.state ≡ Ok u) where
+      abbrev wide : List Given
+      wide = widened S.given S.size
+
+      abbrev end_here : ℕ
+      end_here = lo + numbers f
+
+      wide_some : (gs : List Given) (t : Size) → Nonempty gs → Nonempty (widened gs t)
+      wide_some [] t s = absurd s
+      wide_some (g ∷ gs) (Fun k p r) s = tt
+      wide_some (g ∷ gs) (Hole v) s = tt
+      wide_some (g ∷ gs) (Open m v x) s = tt
+      wide_some (g ∷ gs) (Level e t) s = tt
+      wide_some (g ∷ gs) (Built h ts) s = tt
+
+      -- these are the arguments in the end
+      module _ (gs : List Given) (same_arguments : arguments gs ≡ arguments wide) (same_arrows : (x : Ty) → arrows_of types gs x ≡ arrows_of types wide x) (same_spine : spine S.term gs ≡ spine S.term wide) (placed_wide : Placed wide (lo + length (arguments wide) + numbers S.term) end_here → Placed gs (lo + length (arguments wide) + numbers S.term) end_here) (some_there : Nonempty gs) where
+        abbrev first_here : ℕ
+        first_here = lo + length (arguments gs) + numbers S.term
+
+        abbrev Known_here : Free → Type 0
+        Known_here x = With_met In first_here end_here x
+
+        settled_here : (x : Free) → Known_here x → is_slot x ≡ false
+        settled_here x = met_settled N types home In lo end_here first_here end_here E x
+
+        from_here : lo ≤ first_here
+        from_here = omega arith
+
+        arrows_there : S.type ≡ arrows_of types gs (types lo)
+        arrows_there = S.typed ∙ sym (same_arrows (types lo) ∙ wide_arrows S.given S.size (types lo))
+
+        is_there : f ≡ spine S.term gs
+        is_there = S.is ∙ sym (same_spine ∙ wide_spines S.term S.given S.size)
+
+        placed_there : Placed gs first_here end_here
+        placed_there = subst (λ xs. Placed gs (lo + length xs + numbers S.term) end_here) (sym same_arguments) (placed_wide (subst (λ xs. Placed wide (lo + length xs + numbers S.term) end_here) (sym (wide_arguments S.given S.size)) (wide_placed S.given S.size (lo + length (arguments S.given) + numbers S.term) end_here S.placed)))
+
+        ran_there : finished N types lo (Applied S.size S.regular (arguments gs)) d.state ≡ Ok u
+        ran_there = ap (λ xs. finished N types lo (Applied S.size S.regular xs) d.state) (same_arguments ∙ wide_arguments S.given S.size) ∙ ap (λ p. finished N types lo p d.state) (sym S.part) ∙ q
+
+        data_kind : 1 ≤ rank K (types lo)
+        data_kind = omega (arith, data_places, kind)
+
+        abbrev Resolved_there : (State → Type 0) → Type 0
+        Resolved_there Ends = Resolved N types home K In Vars scope S.term S.size S.regular S.type Known_here (λ x i. inl i) settled_here lo gs d.state u Ends
+
+        meets_there : (Ends : State → Type 0) (R : Resolved_there Ends) → All_parts N types home K places data_places In Vars scope d.state R.ran.after gs st d.state → Later_part N types home K places data_places In Vars scope d.state R.ran.after gs → Meets N types home In Vars scope f lo end_here st u.result u.state
+        meets_there Ends R parts later = spine_meets In Vars scope f lo E S.term S.some gs is_there placed_there some_there u R.size R.says (R.typed ∙ arrows_there) R.takes R.ran R.rule st d.state parts later
+
+      -- data alone
+      data_meets : All_given N types home K places data_places In Vars scope S.given st d.state → Meets N types home In Vars scope f lo end_here st u.result u.state
+      data_meets h = meets_there wide refl (λ x. refl) refl (λ p. p) (wide_some S.given S.size some) (λ s. s ≡ d.state) R
+          (subst (λ B. All_parts N types home K places data_places In Vars scope d.state B wide st d.state) (sym R.ends) (data_parts N types home K places data_places In Vars scope d.state d.state wide st d.state wide_h))
+          (subst (λ B. Later_part N types home K places data_places In Vars scope d.state B wide) (sym R.ends) (none_later N types home K places data_places In Vars scope d.state wide))
+        where
+          wide_h : All_given N types home K places data_places In Vars scope wide st d.state
+          wide_h = wide_given In Vars scope S.given S.size st d.state h
+
+          R : Resolved N types home K In Vars scope S.term S.size S.regular S.type (With_met In (lo + length (arguments wide) + numbers S.term) end_here) (λ x i. inl i) (settled_here wide refl (λ x. refl) refl (λ p. p) (wide_some S.given S.size some)) lo wide d.state u (λ s. s ≡ d.state)
+          R = resolved N types home K In Vars scope S.term S.size S.regular S.type (With_met In (lo + length (arguments wide) + numbers S.term) end_here) (λ x i. inl i) (settled_here wide refl (λ x. refl) refl (λ p. p) (wide_some S.given S.size some)) lo wide d.state u (types lo)
+              (omega (arith, data_places, kind)) (arrows_there wide refl (λ x. refl) refl (λ p. p) (wide_some S.given S.size some)) (widened_widths S.given S.size) (ran_there wide refl (λ x. refl) refl (λ p. p) (wide_some S.given S.size some))
+              (all_fit N types home K places data_places In Vars scope lo (lo + length (arguments wide) + numbers S.term) end_here E (omega arith) wide st d.state (lo + length (arguments wide) + numbers S.term) (omega arith) (placed_there wide refl (λ x. refl) refl (λ p. p) (wide_some S.given S.size some)) wide_h) S.head
+
+      -- and a lambda
+      lambda_meets : One_waits N types home K places data_places In Vars scope S.given st d.state → Primitive_head N types home K In Vars scope S.term S.size S.regular S.type → Meets N types home In Vars scope f lo end_here st u.result u.state
+      lambda_meets h H = meets_there gs same_arguments same_arrows same_spine same_placed some_there (λ s. Went × (s ≡ behind)) R
+          (subst (λ B. All_parts N types home K places data_places In Vars scope d.state B gs st d.state) (sym R.ends.1) (one_parts N types home K places data_places In Vars scope wide st d.state wide_h R.ends.0))
+          (subst (λ B. Later_part N types home K places data_places In Vars scope d.state B gs) (sym R.ends.1) (one_later N types home K places data_places In Vars scope wide st d.state wide_h R.ends.0))
+        where
+          wide_h : One_waits N types home K places data_places In Vars scope wide st d.state
+          wide_h = wide_waits In Vars scope S.given S.size st d.state h
+
+          gs : List Given
+          gs = sized_by N types home K places data_places In Vars scope wide st d.state wide_h
+
+          behind : State
+          behind = state_by N types home K places data_places In Vars scope wide st d.state wide_h
+
+          Went : Type 0
+          Went = Went_by N types home K places data_places In Vars scope wide st d.state wide_h
+
+          same_arguments : arguments gs ≡ arguments wide
+          same_arguments = sized_arguments N types home K places data_places In Vars scope wide st d.state wide_h
+
+          same_arrows : (x : Ty) → arrows_of types gs x ≡ arrows_of types wide x
+          same_arrows = sized_arrows N types home K places data_places In Vars scope wide st d.state wide_h
+
+          same_spine : spine S.term gs ≡ spine S.term wide
+          same_spine = sized_spine N types home K places data_places In Vars scope S.term wide st d.state wide_h
+
+          same_placed : Placed wide (lo + length (arguments wide) + numbers S.term) end_here → Placed gs (lo + length (arguments wide) + numbers S.term) end_here
+          same_placed = sized_placed N types home K places data_places In Vars scope wide st d.state wide_h (lo + length (arguments wide) + numbers S.term) end_here
+
+          some_there : Nonempty gs
+          some_there = sized_some wide st d.state wide_h (wide_some S.given S.size some)
+
+          first_there : ℕ
+          first_there = lo + length (arguments gs) + numbers S.term
+
+          -- the same numbers, by the arguments before the lambda is sized
+          placed_here : Placed wide first_there end_here
+          placed_here = subst (λ xs. Placed wide (lo + length xs + numbers S.term) end_here) (sym same_arguments) (placed_there wide refl (λ x. refl) refl (λ p. p) (wide_some S.given S.size some))
+
+          R : Resolved N types home K In Vars scope S.term S.size S.regular S.type (With_met In first_there end_here) (λ x i. inl i) (settled_here gs same_arguments same_arrows same_spine same_placed some_there) lo gs d.state u (λ s. Went × (s ≡ behind))
+          R = primitive_lambda N types home K In Vars scope S.term S.size S.regular S.type (With_met In first_there end_here) (λ x i. inl i) (settled_here gs same_arguments same_arrows same_spine same_placed some_there) lo gs d.state u (types lo)
+              (omega (arith, data_places, kind)) (arrows_there gs same_arguments same_arrows same_spine same_placed some_there) (sized_widths N types home K places data_places In Vars scope wide st d.state wide_h S.size (widened_widths S.given S.size)) (ran_there gs same_arguments same_arrows same_spine same_placed some_there) H
+              Went behind (one_given N types home K places data_places In Vars scope lo first_there end_here E (omega arith) Went wide st d.state first_there (omega arith) placed_here wide_h (λ w. w))
+
+      any_meets : Meets N types home In Vars scope f lo end_here st u.result u.state
+      any_meets = by_kind S.meet
+        where
+          by_kind : All_given N types home K places data_places In Vars scope S.given st d.state ⊎ ((false ≡ false) × One_waits N types home K places data_places In Vars scope S.given st d.state × Primitive_head N types home K In Vars scope S.term S.size S.regular S.type) → Meets N types home In Vars scope f lo end_here st u.result u.state
+          by_kind (inl h) = data_meets h
+          by_kind (inr h) = lambda_meets h.1 h.2
+
+  pub apply_part : (f e : FlatTerm) → Spine_law N types home K places data_places (Apply f e) → Law_of N types home K places (Apply f e)
+  apply_part f e law In Vars scope T lo st d pl t known E q = inr (inr (record {
+    function = S.size;
+    regular = S.regular;
+    argument = F.argument;
+    others = F.others;
+    is_applied = S.part ∙ ap (Applied S.size S.regular) F.is;
+    by_itself = λ u z. any_meets In Vars scope (Apply f e) lo st d S E pl.0 F.some u z;
+  }))
+    where
+      S : Spine N types home K places data_places false In Vars scope (Apply f e) lo st d
+      S = law false In Vars scope T lo st d pl.1 t known E q
+
+      no_apply : Head N types home K In Vars scope S.term S.size S.regular S.type → Apply f e ≡ S.term → ⊥
+      no_apply (inl H) z = let y : Apply f e ≡ Use (ref.Bound H.bind) H.place H.number = z ∙ H.term_is in cc
+      no_apply (inr H) z = let y : Apply f e ≡ Use (ref.Prim H.primitive) H.place H.number = z ∙ H.term_is in cc
+
+      F : First S.given
+      F = some_given f e S.term S.given (no_apply S.head) S.is
