@@ -18,7 +18,7 @@ use Rattle.elab_scopes.specs.Names.{Refusal}
 use Rattle.elab_scopes.specs.Answers.{Entered, found_of, not_entered, viewed}
 use Rattle.elab_scopes.specs.Resolve.{Numbered, after, led_by, section_name, where_found}
 use Rattle.elab_scopes.specs.Scopes.{Found, Scope, value_of}
-use Rattle.elab_scopes.specs.declared.paths.Found.{Found as HeldFound}
+use Rattle.elab_scopes.specs.declared.values.Found.{Found as HeldFound}
 use Rattle.elab_scopes.specs.declared.refusal.Refusal.{Refusal as HeldRefusal}
 use Rattle.elab_scopes.specs.declared.refusal.Stop.{Stop}
 use Rattle.elab_scopes.specs.declared.table.Names.{Names}
@@ -249,10 +249,10 @@ looked_near (suc n) e sc k = absurd (omega (arith, k))
 pub looked_none : (n : ℕ) (e : SourceTerm) (sc : Scope) → n ≤ 0 → spelled_of None ≡ section_name e → viewed (λ (u : Unit {0}). u) (Ok tt) ≡ looked (name_before n e) sc
 looked_none n e sc k is = ap (λ o. looked o sc) is ∙ looked_near n e sc k
 
-pub looked_found : (n : ℕ) (e : SourceTerm) (sc : Scope) (c : Called) (f : HeldFound) → n ≤ 0 → spelled_of (Some c) ≡ section_name e → viewed found_of (Ok f) ≡ value_of sc (spelled (names c.path.now) c.place) → viewed (λ (u : Unit {0}). u) (Ok tt) ≡ looked (name_before n e) sc
-looked_found n e sc c f k is so = ap is_found so ∙ ap (λ o. looked o sc) is ∙ looked_near n e sc k
+pub looked_found : (n j : ℕ) (e : SourceTerm) (sc : Scope) (c : Called) (f : HeldFound) → n ≤ 0 → spelled_of (Some c) ≡ section_name e → viewed (found_of j) (Ok f) ≡ value_of sc (spelled (names c.path.now) c.place) → viewed (λ (u : Unit {0}). u) (Ok tt) ≡ looked (name_before n e) sc
+looked_found n j e sc c f k is so = ap is_found so ∙ ap (λ o. looked o sc) is ∙ looked_near n e sc k
 
-pub looked_refused : (n : ℕ) (e : SourceTerm) (sc : Scope) (c : Called) (x : HeldRefusal) → n ≤ 0 → spelled_of (Some c) ≡ section_name e → viewed found_of (Err x) ≡ value_of sc (spelled (names c.path.now) c.place) → viewed (λ (u : Unit {0}). u) (Err x) ≡ looked (name_before n e) sc
-looked_refused n e sc c x k is so = ap is_found so ∙ ap (λ o. looked o sc) is ∙ looked_near n e sc k
+pub looked_refused : (n j : ℕ) (e : SourceTerm) (sc : Scope) (c : Called) (x : HeldRefusal) → n ≤ 0 → spelled_of (Some c) ≡ section_name e → viewed (found_of j) (Err x) ≡ value_of sc (spelled (names c.path.now) c.place) → viewed (λ (u : Unit {0}). u) (Err x) ≡ looked (name_before n e) sc
+looked_refused n j e sc c x k is so = ap is_found so ∙ ap (λ o. looked o sc) is ∙ looked_near n e sc k
 
 pub ruleset looked_rules = (looked_far, looked_none, looked_found, looked_refused)

@@ -30,7 +30,10 @@ pub fn used<'a>(
     ensures { Went held_term (resolve (Use (spelled (texts_of path.now) at) at (names_before (texts_of path.now)))) names.now names.now result }
 {
     match value_of(names, path, at) {
-        Ok(found) => uses::path(bump, at, found.names, found.modules, found.fields),
+        Ok(found) => match found.modules(path) {
+            Ok(modules) => uses::path(bump, at, found.names, modules, found.fields),
+            Err(_) => Err(Stop::Memory),
+        },
         Err(refusal) => Err(Stop::Refused(refusal)),
     }
 }

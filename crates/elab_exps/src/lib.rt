@@ -17,12 +17,15 @@ mod leaves;
 mod lists;
 mod operations;
 mod sections;
+mod values;
 
 use bumpalo::Bump;
 use elab_scopes::{Names, Stop};
 use fut_flat as flat;
 use fut_tree::{Exp, TypeExp};
 pub use heads::brought_heads;
+pub use leaves::used;
+pub use values::definition_value;
 
 /// A body with its names resolved and its sugar opened, held by the arena, and the declared type of its result, where one
 /// is written. The names in scope are as before. The first name that is refused, in order of text, is the answer, or memory

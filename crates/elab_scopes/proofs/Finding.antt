@@ -1,5 +1,5 @@
 -- Numbers in a map of texts.
-use Rattle.std.proofs.Common.{◌≡◌, ℕ, Bool, true, false, not, cond, List, [], ◌∷◌, Option, None, Some, refl, sym, ◌∙◌, ap, Bor}
+use Rattle.std.proofs.Common.{◌≡◌, Bool, true, false, cond, [], Option, None, Some, refl, ◌∙◌, ap, Bor}
 use Rattle.std.specs.HashMap as hash
 use Rattle.std.specs.HashMap.{HashMap}
 use Rattle.std.specs.Str.{bytes_eq}

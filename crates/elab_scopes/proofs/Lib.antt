@@ -5,3 +5,9 @@ pub mod Listed
 pub mod Words
 pub mod Outside
 pub mod Walking
+mod Slices
+mod Bytes
+mod Trees
+mod Indexes
+mod Ways
+mod Insides

@@ -1,5 +1,5 @@
 -- Texts that are found.
-use Rattle.std.proofs.Common.{◌≡◌, ℕ, Bool, true, false, cond, List, [], ◌∷◌, ◌++◌, length, map, take, is_some, Option, None, Some, refl, sym, ◌∙◌, ap, Bor}
+use Rattle.std.proofs.Common.{◌≡◌, Bool, true, false, cond, List, [], ◌∷◌, ◌++◌, length, map, take, is_some, Option, None, Some, refl, sym, ◌∙◌, ap, Bor}
 use Rattle.std.proofs.lemmas.List.{map-append, take_at}
 use Rattle.std.specs.Str.{bytes_eq}
 use Rattle.fut_ast.specs.Sorts.{Text}

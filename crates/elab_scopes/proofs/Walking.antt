@@ -1,18 +1,14 @@
 -- Walks over lists, step by step.
-use Rattle.std.proofs.Common.{◌≡◌, ℕ, zero, suc, ◌+◌, ◌<◌, ◌≤◌, ◌++◌, List, [], ◌∷◌, map, length, drop, get_or, refl, sym, ◌∙◌, ap, subst, Result, Ok, Err, arith}
+use Rattle.std.proofs.Common.{◌≡◌, ℕ, ◌+◌, ◌<◌, ◌≤◌, ◌++◌, List, [], ◌∷◌, map, length, drop, get_or, refl, sym, ◌∙◌, ap, Result, Ok, Err}
 use Rattle.std.proofs.lemmas.List.{map-append, append_assoc, append-nil, drop_more}
 use Rattle.std.proofs.Math.ListN.{drop_of_length-le}
-use Rattle.std.specs.Borrow.{Bor}
-use Rattle.fut_ast.specs.Sorts.{Text}
-use Rattle.elab_scopes.specs.declared.refusal.Refusal.{Refusal as HeldRefusal}
 use Rattle.elab_scopes.specs.declared.refusal.Stop.{Stop}
-use Rattle.elab_scopes.specs.declared.refusal.Stop.TheVariants as stop
 use Rattle.elab_scopes.specs.declared.table.Names.{Names}
 use Rattle.elab_scopes.specs.Names.{Refusal}
 use Rattle.elab_scopes.specs.Scopes.{Scope}
 use Rattle.elab_scopes.specs.Resolve.{after}
 use Rattle.elab_scopes.specs.Table.{scope_of}
-use Rattle.elab_scopes.specs.Answers.{refusal_of, Walked, went, refused, no_memory}
+use Rattle.elab_scopes.specs.Answers.{Walked, went, refused, no_memory}
 use Rattle.elab_scopes.specs.Walks.{each, Doing, doing}
 
 -- what stands from a place of a list on

@@ -1,14 +1,15 @@
 -- What the walks of elaboration answer.
-use Rattle.std.specs.Prelude.{◌≡◌, List, map, Result, Ok, Err}
+use Rattle.std.specs.Prelude.{◌≡◌, ℕ, ◌+◌, ◌-◌, List, length, Result, Ok, Err}
 use Rattle.std.specs.Borrow.{Bor}
-use Rattle.fut_ast.specs.Sorts.{Text, Path}
-use Rattle.elab_scopes.specs.declared.paths.Found.{Found as HeldFound}
+use Rattle.fut_ast.specs.Sorts.{Text}
+use Rattle.fut_tree.specs.Names.{names}
+use Rattle.elab_scopes.specs.declared.values.Found.{Found as HeldFound}
 use Rattle.elab_scopes.specs.declared.refusal.Refusal.{Refusal as HeldRefusal}
 use Rattle.elab_scopes.specs.declared.refusal.Refusal.TheVariants as held
 use Rattle.elab_scopes.specs.declared.refusal.Stop.{Stop}
 use Rattle.elab_scopes.specs.declared.refusal.Stop.TheVariants as stop
 use Rattle.elab_scopes.specs.declared.table.Names.{Names}
-use Rattle.elab_scopes.specs.Names.{Refusal, Unbound, Twice, NoMember, NotYet}
+use Rattle.elab_scopes.specs.Names.{Refusal, Unbound, Twice, NoMember, SealMissing, TooManyApplications, NotYet}
 use Rattle.elab_scopes.specs.Scopes.{Scope, Found}
 use Rattle.elab_scopes.specs.Resolve.{Numbered, Naming}
 use Rattle.elab_scopes.specs.Table.{scope_of, bound_of, made_of}
@@ -17,6 +18,8 @@ abbrev pub refusal_of : HeldRefusal → Refusal
 refusal_of (held.Unbound x at) = Unbound x.now at
 refusal_of (held.Twice x at) = Twice x.now at
 refusal_of (held.NoMember x at) = NoMember x.now at
+refusal_of (held.SealMissing x at) = SealMissing x.now at
+refusal_of (held.TooManyApplications at) = TooManyApplications at
 refusal_of (held.NotYet at) = NotYet at
 
 -- an answer as definitions speak of it
@@ -24,8 +27,13 @@ abbrev pub viewed : {A R : Type 0} → (R → A) → Result R HeldRefusal → Re
 viewed view (Ok x) = Ok (view x)
 viewed view (Err e) = Err (refusal_of e)
 
-abbrev pub found_of : HeldFound → Found
-found_of f = record { names = f.names; modules = f.modules; fields = map (λ (x : Bor Text). x.now) f.fields.now }
+-- how many names of a path of so many are modules: all but the value's own and the fields that are left
+abbrev pub modules_before : ℕ → List (Bor Text) → ℕ
+modules_before n fields = n - (length fields + 1)
+
+-- what a path of so many names stands for
+abbrev pub found_of : ℕ → HeldFound → Found
+found_of n f = record { names = f.names; modules = modules_before n f.fields.now; fields = names f.fields.now }
 
 -- What a walk gives, by the definition of what it reads: `state` is what the definition carries along. The scope is as
 -- before. Memory may run out; else the answer is the definition's.

@@ -1,12 +1,11 @@
 -- The newest number of each text, and what each name in scope hides.
-use Rattle.std.specs.Prelude.{◌≡◌, cond, not, Bool, true, false, List, [], ◌∷◌, ◌++◌, map, reverse, is_some, Option, Some, None}
+use Rattle.std.specs.Prelude.{◌≡◌, cond, not, Bool, true, false, List, [], ◌∷◌, map, reverse, is_some, Option, Some, None}
 use Rattle.std.specs.HashMap as hash
 use Rattle.std.specs.Str.{bytes_eq}
 use Rattle.fut_ast.specs.Sorts.{Text}
 use Rattle.fut_scalar.specs.declared.place.BindId.{BindId}
 use Rattle.elab_scopes.specs.declared.newest.Newest.{Newest}
 use Rattle.elab_scopes.specs.declared.scope.Layer.{Layer}
-use Rattle.elab_scopes.specs.declared.table.Entry.{Entry as HeldEntry}
 use Rattle.elab_scopes.specs.Scopes.{Scope, value_in, type_in}
 use Rattle.elab_scopes.specs.Table.{entry_of}
 use Rattle.elab_scopes.specs.Programs.{has_text}

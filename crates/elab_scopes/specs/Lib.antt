@@ -4,7 +4,13 @@ pub mod Resolve
 pub mod Programs
 pub mod Imports
 pub mod Declarations
+pub mod Numbers
+pub mod Held
+pub mod Trees
+pub mod Rows
+pub mod Modules
 pub mod Table
 pub mod Hiding
 pub mod Answers
+pub mod Paths
 pub mod Walks

@@ -1,10 +1,9 @@
 -- The flat definitions of files: a file sees its own definitions from the next one on, and those of the files before it.
-use Rattle.std.specs.Prelude.{ℕ, suc, ◌++◌, ◌||◌, cond, codes, Bool, true, false, List, [], ◌∷◌, map, Option, Some, None, Result, Ok, Err}
+use Rattle.std.specs.Prelude.{ℕ, suc, ◌++◌, ◌||◌, cond, codes, Bool, true, false, List, [], ◌∷◌, map, Option, Result, Ok, Err}
 use Rattle.std.specs.Str.{bytes_eq}
 use Rattle.fut_scalar.specs.declared.place.BindId.{BindId}
 use Rattle.fut_scalar.specs.declared.place.Place.{Place}
-use Rattle.fut_ast.specs.Sorts.{Text, Path, SourceType, SourcePat, SourceExp}
-use Rattle.fut_ast.specs.declared.node.Label.{Label}
+use Rattle.fut_ast.specs.Sorts.{Text, SourceType, SourcePat, SourceExp}
 use Rattle.fut_ast.specs.declared.pat.Head.{Head}
 use Rattle.fut_ast.specs.declared.module.Dec.{Dec}
 use Rattle.fut_ast.specs.declared.module.DecForm.{DecForm, DecForm-F, out-DecForm}

@@ -1,5 +1,5 @@
 -- The flat term of a source's term: each use of a name has its binding, and what is bound is numbered in reading order.
-use Rattle.std.specs.Prelude.{ℕ, length, ◌++◌, cond, Bool, true, false, List, [], ◌∷◌, Option, Some, None, Result, Ok, Err}
+use Rattle.std.specs.Prelude.{length, ◌++◌, cond, Bool, true, false, List, [], ◌∷◌, Option, Some, None, Result, Ok, Err}
 use Rattle.std.specs.Str.{bytes_eq}
 use Rattle.fut_scalar.specs.declared.place.BindId.{BindId}
 use Rattle.fut_scalar.specs.declared.place.Place.{Place}
@@ -7,7 +7,7 @@ use Rattle.fut_ast.specs.Sorts.{Text, Path}
 use Rattle.fut_ast.specs.Nodes.{held_name}
 use Rattle.fut_ast.specs.declared.node.Label.{Label}
 use Rattle.fut_flat.specs.declared.prim.Ref.{Ref}
-use Rattle.fut_flat.specs.Terms.{Size_term, Size_use, Size_const, Size_blank, Type_term, Type_use, Array_type, Unique_type, Arrow_type, Tuple_type, Record_type, Type_terms, no_type, type_and, Type_args, no_arg, size_arg, type_arg, Pattern, Bound_pattern, Wild_pattern, Tuple_pattern, Record_pattern, Typed_pattern, Patterns, no_pattern, pattern_and, Parameter, Size_parameter, Type_parameter, Operation, Integer, Truth, Tuple_of, Record_of, Array_of, Binary, Negate, Complement, Index, Project, Update, Replace, Ascribe, Coerce, Declared, Assert, Range, Binding, Term, Use, Strict, Lambda, Apply, Let, If, Loop, Terms, no_term, term_and, Turns, Counted, Over, While}
+use Rattle.fut_flat.specs.Terms.{Size_term, Size_use, Size_const, Size_blank, Type_use, Array_type, Unique_type, Arrow_type, Tuple_type, Record_type, Type_terms, no_type, type_and, Type_args, no_arg, size_arg, type_arg, Bound_pattern, Wild_pattern, Tuple_pattern, Record_pattern, Typed_pattern, Patterns, no_pattern, pattern_and, Parameter, Size_parameter, Type_parameter, Operation, Integer, Truth, Tuple_of, Record_of, Array_of, Binary, Negate, Complement, Index, Project, Update, Replace, Ascribe, Coerce, Declared, Assert, Range, Use, Strict, Lambda, Apply, Let, If, Loop, Terms, no_term, term_and, Counted, Over, While}
 use Rattle.fut_flat.specs.Erased.{FlatType, FlatPattern, FlatTerm, FlatTurns}
 use Rattle.fut_flat.specs.Sources.{Spelled, spelled, SourceSize, WrittenType, SourcePattern, SourceTerm, SourceTurns}
 use Rattle.elab_scopes.specs.Names.{Refusal, Twice}

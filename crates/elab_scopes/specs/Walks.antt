@@ -1,5 +1,5 @@
 -- Walks over lists, for the parts of any list that is resolved from left to right in one scope.
-use Rattle.std.specs.Prelude.{◌≡◌, ◌++◌, List, [], ◌∷◌, map, Result, Ok, Err}
+use Rattle.std.specs.Prelude.{◌≡◌, ◌++◌, List, [], ◌∷◌, map, Result, Ok}
 use Rattle.elab_scopes.specs.declared.table.Names.{Names}
 use Rattle.elab_scopes.specs.Names.{Refusal}
 use Rattle.elab_scopes.specs.Scopes.{Scope}

@@ -102,10 +102,10 @@ impl<'a> Scope<'a> {
 
     /// Takes the newest names out of scope until so many are left.
     #[tactic(auto, using(crate::proofs::Tied::leaving))]
-    pub fn leave(&mut self, height: usize)
+    pub fn leave(&mut self, height: u128)
         ensures { self.new ≡ take height self.old }
     {
-        while self.len() > height {
+        while self.len() as u128 > height {
             self.forget();
         }
     }

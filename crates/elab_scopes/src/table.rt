@@ -1,9 +1,12 @@
 // The names in scope.
-ghost use Rattle.std.specs.Prelude.{◌≡◌, ◌++◌, [], ◌∷◌, IfOk, OnOk, length, map};
+ghost use Rattle.std.specs.Prelude.{◌≡◌, ◌++◌, [], ◌∷◌, IfOk, OnOk, length, map, take};
+ghost use Rattle.elab_scopes.specs.Modules.{contents_of, modules_of, names_seen};
 ghost use Rattle.elab_scopes.specs.Resolve.{has, next, with_text};
-ghost use Rattle.elab_scopes.specs.Scopes.{type_in, value_in};
-ghost use Rattle.elab_scopes.specs.Table.{bound_of, entries_of, entry_of, made_of, outside, scope_of};
+ghost use Rattle.elab_scopes.specs.Scopes.{a_world, type_in, value_in, world_of};
+ghost use Rattle.elab_scopes.specs.Table.{bottom, bound_of, entries_of, entry_of, locals_of, made_of, modules_in, outside, scope_of};
 
+use crate::members::Members;
+use crate::modules::Contents;
 use crate::scope::Scope;
 use bumpalo::Bump;
 use fut_scalar::{BindId, List, NoMemory};
@@ -17,39 +20,57 @@ pub struct Entry<'a> {
     pub is_type: bool,
 }
 
-/// The names in scope, those that the pattern at hand has bound so far, and the text of each number.
+/// The local names in scope, those that the pattern at hand has bound so far, the text of each number, the names that are seen
+/// outside of a definition, and the modules by their numbers.
 #[derive(Drop)]
 pub struct Names<'a> {
     scope: Scope<'a>,
     bound: Scope<'a>,
     made: List<&'a str>,
+    outside: Option<&'a Members<'a>>,
+    modules: List<Contents<'a>>,
 }
 
 impl<'a> Names<'a> {
-    /// No names. It takes no memory.
-    #[tactic(auto, using(crate::proofs::Tables::tables), unfolding(crate::specs::Table::scope_of, crate::specs::Table::bound_of, crate::specs::Table::made_of))]
+    /// No names, and nothing outside. It takes no memory.
+    #[tactic(auto, using(crate::proofs::Tables::tables), unfolding(crate::specs::Table::scope_of, crate::specs::Table::bound_of, crate::specs::Table::made_of, crate::specs::Table::locals_of, crate::specs::Table::modules_in))]
     pub fn new(alloc: Global) -> Names<'a>
         ensures scope { scope_of result ≡ [] }
         ensures bound { bound_of result ≡ [] }
         ensures made { made_of result ≡ [] }
+        ensures locals { locals_of result ≡ [] }
+        ensures modules { modules_in result ≡ [] }
     {
         Names {
             scope: Scope::new(alloc),
             bound: Scope::new(alloc),
             made: List::new(alloc),
+            outside: None,
+            modules: List::new(alloc),
         }
     }
 
-    /// How many names are in scope.
+    /// How many entries stand below the local names. A height may be one more than a `usize` holds.
+    #[tactic(auto, using(crate::proofs::Tables::bottoms))]
+    fn below(&self) -> u128
+        ensures { result ≡ length (bottom self.now.outside (modules_of self.now.modules)) }
+    {
+        match self.outside {
+            Some(_) => 1,
+            None => 0,
+        }
+    }
+
+    /// How many names are in scope, with what stands outside.
     #[tactic(auto, using(crate::proofs::Tables::tables), unfolding(crate::specs::Table::scope_of, crate::specs::Table::bound_of, crate::specs::Table::made_of))]
-    pub fn height(&self) -> usize
+    pub fn height(&self) -> u128
         ensures { result ≡ length (scope_of self.now) }
     {
-        self.scope.len()
+        self.scope.len() as u128 + self.below()
     }
 
     /// The newest value of a name.
-    #[tactic(auto, unfolding(crate::specs::Table::scope_of, crate::specs::Scopes::value_in))]
+    #[tactic(auto, using(crate::proofs::Tables::bottoms), unfolding(crate::specs::Table::scope_of))]
     pub fn value(&self, name: &str) -> Option<BindId>
         ensures { result ≡ value_in (scope_of self.now) name.now }
     {
@@ -57,7 +78,7 @@ impl<'a> Names<'a> {
     }
 
     /// The newest type of a name.
-    #[tactic(auto, unfolding(crate::specs::Table::scope_of, crate::specs::Scopes::type_in))]
+    #[tactic(auto, using(crate::proofs::Tables::bottoms), unfolding(crate::specs::Table::scope_of))]
     pub fn type_name(&self, name: &str) -> Option<BindId>
         ensures { result ≡ type_in (scope_of self.now) name.now }
     {
@@ -76,12 +97,16 @@ impl<'a> Names<'a> {
 
     /// Takes the newest names out of scope until so many are left.
     #[tactic(auto, using(crate::proofs::Tables::tables), unfolding(crate::specs::Table::scope_of, crate::specs::Table::bound_of, crate::specs::Table::made_of))]
-    pub fn leave(&mut self, height: usize)
+    pub fn leave(&mut self, height: u128)
         ensures scope { scope_of self.new ≡ outside height (scope_of self.old) }
         ensures bound { bound_of self.new ≡ bound_of self.old }
         ensures made { made_of self.new ≡ made_of self.old }
     {
-        self.scope.leave(height);
+        let below = self.below();
+        if height < below {
+            self.outside = None;
+        }
+        self.scope.leave(height.saturating_sub(below));
     }
 
     /// The next number, for a name of this text.
@@ -141,5 +166,79 @@ impl<'a> Names<'a> {
         ensures { IfOk result (λ texts. map (λ x. x.now) texts.now ≡ made_of self.now) }
     {
         Ok(bump.try_alloc_slice_copy(self.made.as_slice())?)
+    }
+
+    /// How many numbers there are.
+    #[tactic(auto, unfolding(crate::specs::Table::made_of))]
+    pub fn count(&self) -> usize
+        ensures { result ≡ length (made_of self.now) }
+    {
+        self.made.len()
+    }
+
+    /// Gives numbers back until so many are left.
+    #[tactic(auto, using(crate::proofs::Tables::bottoms), unfolding(crate::specs::Table::scope_of, crate::specs::Table::made_of, crate::specs::Table::locals_of, crate::specs::Table::modules_in))]
+    pub fn forget(&mut self, count: usize)
+        ensures made { made_of self.new ≡ take count (made_of self.old) }
+        ensures scope { scope_of self.new ≡ scope_of self.old }
+        ensures locals { locals_of self.new ≡ locals_of self.old }
+        ensures modules { modules_in self.new ≡ modules_in self.old }
+    {
+        self.made.truncate(count);
+    }
+
+    // ---- what stands outside
+
+    /// Sees these names outside.
+    #[tactic(auto, unfolding(crate::specs::Table::scope_of, crate::specs::Table::made_of, crate::specs::Table::locals_of, crate::specs::Table::modules_in))]
+    pub fn see(&mut self, members: &'a Members<'a>)
+        ensures scope { scope_of self.new ≡ locals_of self.old ++ a_world (record { names = members.now; modules = modules_in self.old }) ∷ [] }
+        ensures made { made_of self.new ≡ made_of self.old }
+        ensures locals { locals_of self.new ≡ locals_of self.old }
+        ensures modules { modules_in self.new ≡ modules_in self.old }
+    {
+        self.outside = Some(members);
+    }
+
+    /// The names that are seen outside, if any are.
+    #[tactic(auto, using(crate::proofs::Tables::bottoms))]
+    pub fn seen(&self) -> Option<&'a Members<'a>>
+        ensures { names_seen result ≡ (world_of (scope_of self.now)).names }
+    {
+        self.outside
+    }
+
+    /// The modules that are seen outside.
+    #[tactic(auto, using(crate::proofs::Tables::bottoms))]
+    pub fn modules_seen(&self) -> &[Contents<'a>]
+        ensures { modules_of result.now ≡ (world_of (scope_of self.now)).modules }
+    {
+        match self.outside {
+            Some(_) => self.modules.as_slice(),
+            None => &[],
+        }
+    }
+
+    /// The modules by their numbers.
+    #[tactic(auto, unfolding(crate::specs::Table::modules_in))]
+    pub fn modules(&self) -> &[Contents<'a>]
+        ensures { modules_of result.now ≡ modules_in self.now }
+    {
+        self.modules.as_slice()
+    }
+
+    /// One more module, by its number.
+    #[tactic(auto, unfolding(crate::specs::Table::made_of, crate::specs::Table::locals_of, crate::specs::Table::modules_in))]
+    pub fn add_module(&mut self, contents: Contents<'a>) -> Result<u32, NoMemory>
+        ensures number { IfOk result (λ number. number ≡ length (modules_in self.old)) }
+        ensures modules { OnOk result (modules_in self.new ≡ modules_in self.old ++ contents_of contents.entry ∷ []) }
+        ensures made { made_of self.new ≡ made_of self.old }
+        ensures locals { locals_of self.new ≡ locals_of self.old }
+    {
+        let Ok(number) = u32::try_from(self.modules.len()) else {
+            return Err(NoMemory);
+        };
+        self.modules.push(contents)?;
+        Ok(number)
     }
 }

@@ -71,7 +71,8 @@ fn source_set<'a>(
     }
 }
 
-/// A refusal of names, which owns its name. One of a form that is not built, which tokens tell before, is want of memory.
+/// A refusal of names, which owns its name. One of a form that is not built, which tokens tell before, is want of memory, and
+/// so are those of modules, which files without modules do not have.
 fn misnamed(alloc: Global, err: ModErr<'_>) -> Refused
     ensures { (answer : Result FlatProgram Refusal) → Tells answer err.entry → Misnames answer result }
 {
@@ -88,6 +89,8 @@ fn misnamed(alloc: Global, err: ModErr<'_>) -> Refused
             Ok(name) => Refused::Names(NameErr::NoMember { name, at }),
             Err(_) => Refused::Memory,
         },
+        ModErr::SealMissing { name: _, at: _ } => Refused::Memory,
+        ModErr::TooManyApplications { at: _ } => Refused::Memory,
         ModErr::NotYet { at: _ } => Refused::Memory,
         ModErr::Memory => Refused::Memory,
     }

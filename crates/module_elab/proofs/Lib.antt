@@ -1,4 +1,3 @@
-pub mod ValueLaws
 pub mod DefinitionLaws
 pub mod FileLaws
 pub mod Whole

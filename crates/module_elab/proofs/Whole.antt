@@ -33,6 +33,8 @@ pub refusal_told : (does : Result FlatProgram Refusal) (x : Stop) → Gives_prog
 refusal_told does _ (refuses_program {e = held.Unbound x at} is) = is
 refusal_told does _ (refuses_program {e = held.Twice x at} is) = is
 refusal_told does _ (refuses_program {e = held.NoMember x at} is) = is
+refusal_told does _ (refuses_program {e = held.SealMissing x at} is) = is
+refusal_told does _ (refuses_program {e = held.TooManyApplications at} is) = is
 refusal_told does _ (refuses_program {e = held.NotYet at} is) = is
 refusal_told does _ no_program = tt
 

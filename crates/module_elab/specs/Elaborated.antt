@@ -3,7 +3,7 @@ use Rattle.std.specs.Prelude.{◌≡◌, map, Result, Err}
 use Rattle.fut_flat.specs.declared.program.Definition.{Definition}
 use Rattle.fut_flat.specs.declared.program.Flat.{Flat}
 use Rattle.fut_flat.specs.Erased.{parameters, term_of, texts}
-use Rattle.elab_scopes.specs.Names.{Refusal, Unbound, Twice, NoMember, NotYet}
+use Rattle.elab_scopes.specs.Names.{Refusal, Unbound, Twice, NoMember, SealMissing, TooManyApplications, NotYet}
 use Rattle.elab_scopes.specs.Programs.{FlatDefinition, FlatProgram}
 use Rattle.elab_scopes.specs.declared.refusal.Refusal.TheVariants as held
 use Rattle.elab_scopes.specs.declared.refusal.Stop.{Stop}
@@ -23,6 +23,8 @@ abbrev pub error_of : Stop → ModErr
 error_of (stop.Refused (held.Unbound x at)) = err.Unbound x at
 error_of (stop.Refused (held.Twice x at)) = err.Twice x at
 error_of (stop.Refused (held.NoMember x at)) = err.NoMember x at
+error_of (stop.Refused (held.SealMissing x at)) = err.SealMissing x at
+error_of (stop.Refused (held.TooManyApplications at)) = err.TooManyApplications at
 error_of (stop.Refused (held.NotYet at)) = err.NotYet at
 error_of stop.Memory = err.Memory
 
@@ -31,5 +33,7 @@ abbrev pub Tells : Result FlatProgram Refusal → ModErr → Type 0
 Tells r (err.Unbound x at) = r ≡ Err (Unbound x.now at)
 Tells r (err.Twice x at) = r ≡ Err (Twice x.now at)
 Tells r (err.NoMember x at) = r ≡ Err (NoMember x.now at)
+Tells r (err.SealMissing x at) = r ≡ Err (SealMissing x.now at)
+Tells r (err.TooManyApplications at) = r ≡ Err (TooManyApplications at)
 Tells r (err.NotYet at) = r ≡ Err (NotYet at)
 Tells r err.Memory = Unit {0}

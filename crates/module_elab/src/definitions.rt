@@ -5,9 +5,8 @@ ghost use Rattle.module_elab.specs.Walks.{Defines, Gives, Known, define_once, de
 ghost use Rattle.elab_nodes.specs.Built.{Built3};
 ghost use Rattle.elab_scopes.specs.Programs.{is_entry_named, resolve_dec};
 
-use crate::values::definition_value;
 use bumpalo::Bump;
-use elab_exps::brought_heads;
+use elab_exps::{brought_heads, definition_value};
 use elab_nodes::both::both;
 use elab_scopes::{Names, Refusal, Stop, Texts};
 use elab_types::{in_scope, numbered};

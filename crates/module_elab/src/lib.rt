@@ -12,7 +12,6 @@ mod files;
 mod prelude;
 mod refused;
 mod source_set;
-mod values;
 
 pub use call::elaborate;
 pub use prelude::{PRELUDE, PRELUDE_PATH};

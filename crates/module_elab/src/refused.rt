@@ -14,6 +14,10 @@ pub enum ModErr<'a> {
     Twice { name: &'a str, at: Place },
     /// The module has no such member.
     NoMember { name: &'a str, at: Place },
+    /// The module that a seal or a parameter asks for has no such member.
+    SealMissing { name: &'a str, at: Place },
+    /// Parametric modules are applied more than 1,024 times.
+    TooManyApplications { at: Place },
     /// A declaration of a form that is not built yet.
     NotYet { at: Place },
     /// Memory ran out.
@@ -29,6 +33,10 @@ impl<'a> ModErr<'a> {
             Stop::Refused(Refusal::Unbound { name, at }) => ModErr::Unbound { name, at },
             Stop::Refused(Refusal::Twice { name, at }) => ModErr::Twice { name, at },
             Stop::Refused(Refusal::NoMember { name, at }) => ModErr::NoMember { name, at },
+            Stop::Refused(Refusal::SealMissing { name, at }) => ModErr::SealMissing { name, at },
+            Stop::Refused(Refusal::TooManyApplications { at }) => ModErr::TooManyApplications {
+                at,
+            },
             Stop::Refused(Refusal::NotYet { at }) => ModErr::NotYet { at },
             Stop::Memory => ModErr::Memory,
         }

@@ -9,14 +9,15 @@ use Rattle.elab_scopes.specs.Names.{Unbound}
 use Rattle.elab_scopes.specs.Imports.{item}
 use Rattle.elab_scopes.specs.Scopes.{module_at, signature_at}
 use Rattle.elab_scopes.specs.Declarations.{Here, State, from}
-use Rattle.module_scopes.specs.declared.refusal.Refusal.{Refusal as HeldRefusal}
-use Rattle.module_scopes.specs.declared.refusal.Refusal.TheVariants as held
-use Rattle.module_scopes.specs.declared.refusal.Stop.TheVariants as stop
-use Rattle.module_scopes.specs.declared.meanings.ModuleRef.{ModuleRef}
-use Rattle.module_scopes.specs.declared.modules.Contents.{Contents as HeldContents}
-use Rattle.module_scopes.specs.Answers.{viewed}
-use Rattle.module_scopes.specs.Held.{module_ref_of}
-use Rattle.module_scopes.specs.Paths.{world}
+use Rattle.elab_scopes.specs.declared.refusal.Refusal.{Refusal as HeldRefusal}
+use Rattle.elab_scopes.specs.declared.refusal.Refusal.TheVariants as held
+use Rattle.elab_scopes.specs.declared.refusal.Stop.TheVariants as stop
+use Rattle.elab_scopes.specs.declared.meanings.ModuleRef.{ModuleRef}
+use Rattle.elab_scopes.specs.declared.modules.Contents.{Contents as HeldContents}
+use Rattle.elab_scopes.specs.Answers.{viewed}
+use Rattle.elab_scopes.specs.Held.{module_ref_of}
+use Rattle.elab_scopes.specs.Modules.{modules_of, world}
+use Rattle.elab_scopes.specs.Table.{modules_in}
 use Rattle.module_state.specs.declared.state.Declaring.{Declaring}
 use Rattle.module_state.specs.declared.state.Functor.{Functor as HeldFunctor}
 use Rattle.module_state.specs.declared.state.Signature.{Signature as HeldSignature}
@@ -25,7 +26,7 @@ use Rattle.module_state.specs.Steps.{named_signature, path_module}
 
 -- ---- paths
 
-module _ (x : Text) (xs : Path) (h : Here) (at : Place) (d : Declaring) (r : Result ModuleRef HeldRefusal) (is : viewed module_ref_of r ≡ module_at (world h.names d.modules) at x xs) where
+module _ (x : Text) (xs : Path) (h : Here) (at : Place) (d : Declaring) (r : Result ModuleRef HeldRefusal) (is : viewed module_ref_of r ≡ module_at (record { names = h.names; modules = modules_in d.names }) at x xs) where
   asked_of : (s : State) → Stands d s → path_module h at (x ∷ xs) s ≡ from (viewed module_ref_of r) s
   asked_of s st = ap (λ cs. from (module_at (record { names = h.names; modules = cs }) at x xs) s) (sym st.modules) ∙ ap (λ q. from q s) (sym is)
 
@@ -39,9 +40,9 @@ path_split : (ps : List (Bor Text)) (b : Bor Text) → 1 ≤ length ps → names
 path_split [] b le = absurd (omega (arith, le))
 path_split (p ∷ ps) b le = ap (λ l. p.now ∷ names l) (sym (take_all (length (p ∷ ps) - 1) ps (omega arith)))
 
-module _ (ps : List (Bor Text)) (b : Bor Text) (h : Here) (at : Place) (d : Declaring) (r : Result ModuleRef HeldRefusal) (le : 1 ≤ length ps) (cs : List HeldContents) (same : cs ≡ d.modules) (is : viewed module_ref_of r ≡ module_at (world h.names cs) at (slice_index_or ps 0 b).now (names (take (length ps - 1) (drop 1 ps)))) where
-  here_asked : viewed module_ref_of r ≡ module_at (world h.names d.modules) at (slice_index_or ps 0 b).now (names (take (length ps - 1) (drop 1 ps)))
-  here_asked = is ∙ ap (λ z. module_at (world h.names z) at (slice_index_or ps 0 b).now (names (take (length ps - 1) (drop 1 ps)))) same
+module _ (ps : List (Bor Text)) (b : Bor Text) (h : Here) (at : Place) (d : Declaring) (r : Result ModuleRef HeldRefusal) (le : 1 ≤ length ps) (cs : List HeldContents) (same : modules_of cs ≡ modules_in d.names) (is : viewed module_ref_of r ≡ module_at (world h.names cs) at (slice_index_or ps 0 b).now (names (take (length ps - 1) (drop 1 ps)))) where
+  here_asked : viewed module_ref_of r ≡ module_at (record { names = h.names; modules = modules_in d.names }) at (slice_index_or ps 0 b).now (names (take (length ps - 1) (drop 1 ps)))
+  here_asked = is ∙ ap (λ z. module_at (record { names = h.names; modules = z }) at (slice_index_or ps 0 b).now (names (take (length ps - 1) (drop 1 ps)))) same
 
   pub path_went : (m : ModuleRef) → r ≡ Ok m → Does module_ref_of (path_module h at (names ps)) d d (Ok m)
   path_went m ok = subst (λ l. Does module_ref_of (path_module h at l) d d (Ok m)) (sym (path_split ps b le)) (path_found _ _ h at d r here_asked m ok)
@@ -85,9 +86,9 @@ signature_past d j le s st = past_row signature_of d.signatures j le ∙ ap (λ 
 
 pub ruleset signatures = (signature_there, signature_past)
 
-module _ (p : Path) (h : Here) (at : Place) (d : Declaring) (r : Result ℕ HeldRefusal) (cs : List HeldContents) (same : cs ≡ d.modules) (is : viewed (λ (k : ℕ). k) r ≡ signature_at (world h.names cs) at p) where
+module _ (p : Path) (h : Here) (at : Place) (d : Declaring) (r : Result ℕ HeldRefusal) (cs : List HeldContents) (same : modules_of cs ≡ modules_in d.names) (is : viewed (λ (k : ℕ). k) r ≡ signature_at (world h.names cs) at p) where
   signature_asked : (s : State) → Stands d s → named_signature h at p s ≡ from (viewed (λ (k : ℕ). k) r) s
-  signature_asked s st = ap (λ ms. from (signature_at (record { names = h.names; modules = ms }) at p) s) (sym st.modules) ∙ ap (λ q. from q s) (sym (is ∙ ap (λ z. signature_at (world h.names z) at p) same))
+  signature_asked s st = ap (λ ms. from (signature_at (record { names = h.names; modules = ms }) at p) s) (sym st.modules) ∙ ap (λ q. from q s) (sym (is ∙ ap (λ z. signature_at (record { names = h.names; modules = z }) at p) same))
 
   pub signature_went : (k : ℕ) → r ≡ Ok k → Does (λ (k : ℕ). k) (named_signature h at p) d d (Ok k)
   signature_went k ok = does (λ s st. record { state = s; is = signature_asked s st ∙ ap (λ q. from (viewed (λ (k : ℕ). k) q) s) ok; stands = st })

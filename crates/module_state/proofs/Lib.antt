@@ -3,3 +3,4 @@ pub mod Finding
 pub mod Namings
 mod Currying
 mod Openings
+pub mod Growing

@@ -13,8 +13,8 @@ use Rattle.fut_tree.specs.Names.{names, all, maybe}
 use Rattle.fut_tree.specs.ModTypes.{label_of}
 use Rattle.fut_tree.specs.Mods.{decs_of, mod_form_of, mod_of}
 use Rattle.elab_scopes.specs.Declarations.{called, joined, ModLayer, Step}
-use Rattle.module_scopes.specs.declared.refusal.Stop.{Stop}
-use Rattle.module_scopes.specs.declared.refusal.Stop.TheVariants as stop
+use Rattle.elab_scopes.specs.declared.refusal.Stop.{Stop}
+use Rattle.elab_scopes.specs.declared.refusal.Stop.TheVariants as stop
 use Rattle.module_state.specs.declared.state.Declaring.{Declaring}
 use Rattle.module_state.specs.Standing.{Does, stops}
 use Rattle.module_state.specs.Steps.{called_of}

@@ -18,15 +18,16 @@ use Rattle.fut_primitives.specs.Table.{name}
 use Rattle.elab_scopes.specs.Names.{Unbound}
 use Rattle.elab_scopes.specs.Scopes.{Module_ref, made_module, scalar_module, Member, value_member, members}
 use Rattle.elab_scopes.specs.Declarations.{Block, State, brought, contents_of as contents_of', opened, other_members, primitive_member, scalar_members}
-use Rattle.module_scopes.specs.declared.refusal.Refusal.TheVariants as held
-use Rattle.module_scopes.specs.declared.refusal.Stop.{Stop}
-use Rattle.module_scopes.specs.declared.refusal.Stop.TheVariants as stop
-use Rattle.module_scopes.specs.declared.meanings.ModuleRef.{ModuleRef}
-use Rattle.module_scopes.specs.declared.meanings.ModuleRef.TheVariants as held_module
-use Rattle.module_scopes.specs.declared.modules.Contents.{Contents as HeldContents}
-use Rattle.module_scopes.specs.declared.modules.Contents.TheVariants as held_contents
-use Rattle.module_scopes.specs.Held.{module_ref_of}
-use Rattle.module_scopes.specs.Modules.{contents_of, maybe_contents, modules_of}
+use Rattle.elab_scopes.specs.declared.refusal.Refusal.TheVariants as held
+use Rattle.elab_scopes.specs.declared.refusal.Stop.{Stop}
+use Rattle.elab_scopes.specs.declared.refusal.Stop.TheVariants as stop
+use Rattle.elab_scopes.specs.declared.meanings.ModuleRef.{ModuleRef}
+use Rattle.elab_scopes.specs.declared.meanings.ModuleRef.TheVariants as held_module
+use Rattle.elab_scopes.specs.declared.modules.Contents.{Contents as HeldContents}
+use Rattle.elab_scopes.specs.declared.modules.Contents.TheVariants as held_contents
+use Rattle.elab_scopes.specs.Held.{module_ref_of}
+use Rattle.elab_scopes.specs.Modules.{contents_of, maybe_contents, modules_of}
+use Rattle.elab_scopes.specs.Table.{modules_in}
 use Rattle.module_state.specs.declared.state.Block.{Block as HeldBlock}
 use Rattle.module_state.specs.declared.state.Declaring.{Declaring}
 use Rattle.module_state.specs.Standing.{block_of, Stands, Does, does, refuses, stops}
@@ -90,9 +91,9 @@ in_state : (s : State) (n : Module_ref) → contents_in s.modules n ≡ contents
 in_state s (made_module k) = refl
 in_state s (scalar_module t) = refl
 
-module _ (is_local : Bool) (m : PlainModExp) (n : Module_ref) (b : Block) (d : Declaring) (c : HeldContents) (cs : List HeldContents) (same : cs ≡ d.modules) (found : contents_of c ≡ contents_in (modules_of cs) n) where
+module _ (is_local : Bool) (m : PlainModExp) (n : Module_ref) (b : Block) (d : Declaring) (c : HeldContents) (cs : List HeldContents) (same : modules_of cs ≡ modules_in d.names) (found : contents_of c ≡ contents_in (modules_of cs) n) where
   opened_as : (s : State) → Stands d s → open_step is_local m n b s ≡ opened is_local (out-ModExp m).place (called_of m) (contents_of c) b s
-  opened_as s st = ap (λ x. opened is_local (out-ModExp m).place (called_of m) x b s) (sym (found ∙ ap (λ z. contents_in (modules_of z) n) same ∙ ap (λ cs. contents_in cs n) st.modules ∙ in_state s n))
+  opened_as s st = ap (λ x. opened is_local (out-ModExp m).place (called_of m) x b s) (sym (found ∙ ap (λ z. contents_in z n) same ∙ ap (λ cs. contents_in cs n) st.modules ∙ in_state s n))
 
   pub members_open : (ms : Bor (List Member)) (r : Result HeldBlock Stop) → c ≡ held_contents.Members ms → IfOk r (λ q. block_of q ≡ brought is_local ms.now [] b) → IfErr r (λ e. e ≡ stop.Memory) → Does block_of (open_step is_local m n b) d d r
   members_open ms (Ok q) is e i = does (λ s st. record { state = s; is = opened_as s st ∙ ap (λ o. opened is_local (out-ModExp m).place (called_of m) (contents_of o) b s) is ∙ (λ i. Ok (sym e i, s)); stands = st })

@@ -3,15 +3,16 @@ use Rattle.std.proofs.Common.{◌≡◌, ℕ, [], ◌∷◌, ◌++◌, map, reve
 use Rattle.std.proofs.lemmas.List.{map-append, length-map}
 use Rattle.elab_scopes.specs.Scopes.{parametric, made_module}
 use Rattle.elab_scopes.specs.Resolve.{after}
-use Rattle.elab_scopes.specs.Table.{made_of, scope_of}
+use Rattle.elab_scopes.specs.declared.table.Names.{Names}
+use Rattle.elab_scopes.specs.Table.{locals_of, made_of, modules_in}
 use Rattle.elab_scopes.specs.Declarations.{State, Step, with_module, new_module, with_functor, new_functor, with_signature}
-use Rattle.module_scopes.specs.declared.refusal.Stop.{Stop}
-use Rattle.module_scopes.specs.declared.refusal.Stop.TheVariants as stop
-use Rattle.module_scopes.specs.declared.modules.Contents.{Contents as HeldContents}
-use Rattle.module_scopes.specs.declared.modules.Contents.TheVariants as held_contents
-use Rattle.module_scopes.specs.declared.meanings.ModuleRef.TheVariants as held_module
-use Rattle.module_scopes.specs.Held.{module_ref_of}
-use Rattle.module_scopes.specs.Modules.{contents_of, modules_of}
+use Rattle.elab_scopes.specs.declared.refusal.Stop.{Stop}
+use Rattle.elab_scopes.specs.declared.refusal.Stop.TheVariants as stop
+use Rattle.elab_scopes.specs.declared.modules.Contents.{Contents as HeldContents}
+use Rattle.elab_scopes.specs.declared.modules.Contents.TheVariants as held_contents
+use Rattle.elab_scopes.specs.declared.meanings.ModuleRef.TheVariants as held_module
+use Rattle.elab_scopes.specs.Held.{module_ref_of}
+use Rattle.elab_scopes.specs.Modules.{contents_of}
 use Rattle.module_state.specs.declared.state.Functor.{Functor as HeldFunctor}
 use Rattle.module_state.specs.declared.state.Signature.{Signature as HeldSignature}
 use Rattle.module_state.specs.declared.state.Declaring.{Declaring}
@@ -63,31 +64,31 @@ at_once view x d = does (λ s st. record { state = s; is = refl; stands = st })
 
 -- ---- what is added
 
-pub module_added : (c : HeldContents) (d d1 : Declaring) (k : ℕ) → k ≡ length d.modules → d1.modules ≡ d.modules ++ c ∷ [] → d1.names ≡ d.names
+pub module_added : (c : HeldContents) (d d1 : Declaring) (ns : Names) (k : ℕ) → k ≡ length (modules_in d.names) → modules_in ns ≡ modules_in d.names ++ contents_of c ∷ [] → made_of ns ≡ made_of d.names → locals_of ns ≡ locals_of d.names → d1.names ≡ ns
     → d1.functors ≡ d.functors → d1.signatures ≡ d.signatures → d1.definitions ≡ d.definitions → d1.applications ≡ d.applications → d1.start ≡ d.start → d1.loaded ≡ d.loaded
     → Does module_ref_of (new_module (contents_of c)) d d1 (Ok (held_module.Made k))
-module_added c d d1 k number more ns fs gs ds as' ss ls = does (λ s st. record {
+module_added c d d1 ns k number more mk lc is fs gs ds as' ss ls = does (λ s st. record {
   state = with_module (contents_of c) s;
-  is = ap (λ n. Ok (made_module n, with_module (contents_of c) s)) (sym (number ∙ sym (length-map d.modules contents_of) ∙ ap length st.modules));
-  stands = record { made = ap made_of ns ∙ st.made; modules = ap modules_of more ∙ map-append contents_of d.modules (c ∷ []) ∙ ap (λ ms. ms ++ contents_of c ∷ []) st.modules; functors = ap (map functor_of) fs ∙ st.functors; signatures = ap (map signature_of) gs ∙ st.signatures; definitions = ap (λ v. map definition_of v.items) ds ∙ st.definitions; applications = as' ∙ st.applications; start = ap (λ b. b.now) ss ∙ st.start; loaded = ap (λ l. reverse (map loaded_of l)) ls ∙ st.loaded; locals = ap scope_of ns ∙ st.locals };
+  is = ap (λ n. Ok (made_module n, with_module (contents_of c) s)) (sym (number ∙ ap length st.modules));
+  stands = record { made = ap made_of is ∙ mk ∙ st.made; modules = ap modules_in is ∙ more ∙ ap (λ ms. ms ++ contents_of c ∷ []) st.modules; functors = ap (map functor_of) fs ∙ st.functors; signatures = ap (map signature_of) gs ∙ st.signatures; definitions = ap (λ v. map definition_of v.items) ds ∙ st.definitions; applications = as' ∙ st.applications; start = ap (λ b. b.now) ss ∙ st.start; loaded = ap (λ l. reverse (map loaded_of l)) ls ∙ st.loaded; locals = ap locals_of is ∙ lc ∙ st.locals };
 })
 
-pub functor_added : (f : HeldFunctor) (d d1 : Declaring) (n : ℕ) → n ≡ length d.functors → d1.functors ≡ d.functors ++ f ∷ [] → d1.modules ≡ d.modules → d1.names ≡ d.names
+pub functor_added : (f : HeldFunctor) (d d1 : Declaring) (n : ℕ) → n ≡ length d.functors → d1.functors ≡ d.functors ++ f ∷ [] → d1.names ≡ d.names
     → d1.signatures ≡ d.signatures → d1.definitions ≡ d.definitions → d1.applications ≡ d.applications → d1.start ≡ d.start → d1.loaded ≡ d.loaded
     → Does contents_of (new_functor (functor_of f)) d d1 (Ok (held_contents.Parametric n))
-functor_added f d d1 n number more ms ns gs ds as' ss ls = does (λ s st. record {
+functor_added f d d1 n number more ns gs ds as' ss ls = does (λ s st. record {
   state = with_functor (functor_of f) s;
   is = ap (λ n. Ok (parametric n, with_functor (functor_of f) s)) (sym (number ∙ sym (length-map d.functors functor_of) ∙ ap length st.functors));
-  stands = record { made = ap made_of ns ∙ st.made; modules = ap modules_of ms ∙ st.modules; functors = ap (map functor_of) more ∙ map-append functor_of d.functors (f ∷ []) ∙ ap (λ l. l ++ functor_of f ∷ []) st.functors; signatures = ap (map signature_of) gs ∙ st.signatures; definitions = ap (λ v. map definition_of v.items) ds ∙ st.definitions; applications = as' ∙ st.applications; start = ap (λ b. b.now) ss ∙ st.start; loaded = ap (λ l. reverse (map loaded_of l)) ls ∙ st.loaded; locals = ap scope_of ns ∙ st.locals };
+  stands = record { made = ap made_of ns ∙ st.made; modules = ap modules_in ns ∙ st.modules; functors = ap (map functor_of) more ∙ map-append functor_of d.functors (f ∷ []) ∙ ap (λ l. l ++ functor_of f ∷ []) st.functors; signatures = ap (map signature_of) gs ∙ st.signatures; definitions = ap (λ v. map definition_of v.items) ds ∙ st.definitions; applications = as' ∙ st.applications; start = ap (λ b. b.now) ss ∙ st.start; loaded = ap (λ l. reverse (map loaded_of l)) ls ∙ st.loaded; locals = ap locals_of ns ∙ st.locals };
 })
 
-pub signature_added : (g : HeldSignature) (d d1 : Declaring) (n : ℕ) → n ≡ length d.signatures → d1.signatures ≡ d.signatures ++ g ∷ [] → d1.modules ≡ d.modules → d1.names ≡ d.names
+pub signature_added : (g : HeldSignature) (d d1 : Declaring) (n : ℕ) → n ≡ length d.signatures → d1.signatures ≡ d.signatures ++ g ∷ [] → d1.names ≡ d.names
     → d1.functors ≡ d.functors → d1.definitions ≡ d.definitions → d1.applications ≡ d.applications → d1.start ≡ d.start → d1.loaded ≡ d.loaded
     → Does (λ (k : ℕ). k) (new_signature (signature_of g)) d d1 (Ok n)
-signature_added g d d1 n number more ms ns fs ds as' ss ls = does (λ s st. record {
+signature_added g d d1 n number more ns fs ds as' ss ls = does (λ s st. record {
   state = with_signature (signature_of g) s;
   is = ap (λ n. Ok (n, with_signature (signature_of g) s)) (sym (number ∙ sym (length-map d.signatures signature_of) ∙ ap length st.signatures));
-  stands = record { made = ap made_of ns ∙ st.made; modules = ap modules_of ms ∙ st.modules; functors = ap (map functor_of) fs ∙ st.functors; signatures = ap (map signature_of) more ∙ map-append signature_of d.signatures (g ∷ []) ∙ ap (λ l. l ++ signature_of g ∷ []) st.signatures; definitions = ap (λ v. map definition_of v.items) ds ∙ st.definitions; applications = as' ∙ st.applications; start = ap (λ b. b.now) ss ∙ st.start; loaded = ap (λ l. reverse (map loaded_of l)) ls ∙ st.loaded; locals = ap scope_of ns ∙ st.locals };
+  stands = record { made = ap made_of ns ∙ st.made; modules = ap modules_in ns ∙ st.modules; functors = ap (map functor_of) fs ∙ st.functors; signatures = ap (map signature_of) more ∙ map-append signature_of d.signatures (g ∷ []) ∙ ap (λ l. l ++ signature_of g ∷ []) st.signatures; definitions = ap (λ v. map definition_of v.items) ds ∙ st.definitions; applications = as' ∙ st.applications; start = ap (λ b. b.now) ss ∙ st.start; loaded = ap (λ l. reverse (map loaded_of l)) ls ∙ st.loaded; locals = ap locals_of ns ∙ st.locals };
 })
 
 pub memory_stops : {R A : Type 0} (view : R → A) (step : Step A) (d d1 : Declaring) → Does view step d d1 (Err stop.Memory)

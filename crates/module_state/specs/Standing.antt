@@ -6,15 +6,14 @@ use Rattle.fut_flat.specs.Erased.{parameters, term_of}
 use Rattle.elab_scopes.specs.Names.{Refusal}
 use Rattle.elab_scopes.specs.Programs.{FlatDefinition}
 use Rattle.elab_scopes.specs.Scopes.{Member, Module_ref}
-use Rattle.elab_scopes.specs.Table.{made_of, scope_of}
+use Rattle.elab_scopes.specs.Table.{locals_of, made_of, modules_in}
 use Rattle.elab_scopes.specs.Declarations.{Meeting, hidden, shown, nothing, Given_type, Giving, the_body, of_another, names_alone, Block, Instance, Functor, Signature, Here, State, Step}
-use Rattle.module_scopes.specs.declared.refusal.Refusal.{Refusal as HeldRefusal}
-use Rattle.module_scopes.specs.declared.refusal.Stop.{Stop}
-use Rattle.module_scopes.specs.declared.refusal.Stop.TheVariants as stop
-use Rattle.module_scopes.specs.Answers.{refusal_of}
-use Rattle.module_scopes.specs.Held.{member_of, module_ref_of}
-use Rattle.module_scopes.specs.Modules.{modules_of}
-use Rattle.module_scopes.specs.declared.meanings.Member.{Member as HeldMember}
+use Rattle.elab_scopes.specs.declared.refusal.Refusal.{Refusal as HeldRefusal}
+use Rattle.elab_scopes.specs.declared.refusal.Stop.{Stop}
+use Rattle.elab_scopes.specs.declared.refusal.Stop.TheVariants as stop
+use Rattle.elab_scopes.specs.Answers.{refusal_of}
+use Rattle.elab_scopes.specs.Held.{member_of, module_ref_of}
+use Rattle.elab_scopes.specs.declared.meanings.Member.{Member as HeldMember}
 use Rattle.module_state.specs.declared.state.Block.{Block as HeldBlock}
 use Rattle.module_state.specs.declared.state.Specified.{Specified}
 use Rattle.module_state.specs.declared.state.Meeting.{Meeting as HeldMeeting}
@@ -76,14 +75,14 @@ flats = map (λ (i : Instance). i.flat)
 -- what is held stands for the state; no local names are in scope
 pub record Stands (d : Declaring) (s : State) : Type 0 where
   pub made : made_of d.names ≡ s.made
-  pub modules : modules_of d.modules ≡ s.modules
+  pub modules : modules_in d.names ≡ s.modules
   pub functors : map functor_of d.functors ≡ s.functors
   pub signatures : map signature_of d.signatures ≡ s.signatures
   pub definitions : map definition_of d.definitions.items ≡ flats s.instances
   pub applications : d.applications ≡ s.applications
   pub start : d.start.now ≡ s.start
   pub loaded : reverse (map loaded_of d.loaded) ≡ s.loaded
-  pub locals : scope_of d.names ≡ []
+  pub locals : locals_of d.names ≡ []
 
 -- a step went, and what is held stands for where it went
 pub record Done {A : Type 0} (a : A) (r : Result (A × State) Refusal) (d : Declaring) : Type 0 where

@@ -2,7 +2,7 @@
 ghost use Rattle.std.specs.Prelude.{◌≡◌, ◌&&◌, is_some, not};
 ghost use Rattle.elab_scopes.specs.Scopes.{module_among, signature_among, type_among, value_among};
 
-use module_scopes::Members;
+use elab_scopes::Members;
 
 /// Whether a value of this name was declared before, and another may not be.
 pub fn is_value_again<'a>(is_local: bool, own: &'a Members<'a>, name: &str) -> bool

@@ -1,13 +1,13 @@
 // Blocks of declarations.
 ghost use Rattle.std.specs.Prelude.{◌≡◌, ◌++◌, ◌∷◌, [], IfErr, IfOk};
 ghost use Rattle.elab_scopes.specs.Declarations.{brought};
-ghost use Rattle.module_scopes.specs.Held.{member_of};
-ghost use Rattle.module_scopes.specs.declared.refusal.Stop.TheVariants as stop;
+ghost use Rattle.elab_scopes.specs.Held.{member_of};
+ghost use Rattle.elab_scopes.specs.declared.refusal.Stop.TheVariants as stop;
 ghost use Rattle.module_state.specs.Standing.{block_of};
 
 use crate::state::Block;
 use bumpalo::Bump;
-use module_scopes::{Member, Members, Stop, joined, with_member};
+use elab_scopes::{Member, Members, Stop, joined, with_member};
 
 /// Newer members before older ones.
 fn all_members<'a>(

@@ -1,14 +1,14 @@
 // Where a part stands, and what it sees.
 ghost use Rattle.std.specs.Prelude.{◌≡◌, IfErr, IfOk};
 ghost use Rattle.elab_scopes.specs.Declarations.{bare, in_body, seeing, within};
-ghost use Rattle.module_scopes.specs.Held.{module_ref_of};
-ghost use Rattle.module_scopes.specs.declared.refusal.Stop.TheVariants as stop;
+ghost use Rattle.elab_scopes.specs.Held.{module_ref_of};
+ghost use Rattle.elab_scopes.specs.declared.refusal.Stop.TheVariants as stop;
 ghost use Rattle.module_state.specs.Standing.{functor_of, here_of};
 
 use crate::blocks::more_members;
 use crate::state::{Functor, Here};
 use bumpalo::Bump;
-use module_scopes::{Member, Members, ModuleRef, Stop};
+use elab_scopes::{Member, Members, ModuleRef, Stop};
 
 /// The same with other names in scope.
 pub fn sees<'a>(names: &'a Members<'a>, here: Here<'a>) -> Here<'a>

@@ -2,12 +2,12 @@
 ghost use Rattle.std.specs.Prelude.{◌≡◌, IfErr, IfOk};
 ghost use Rattle.fut_tree.specs.Names.{names};
 ghost use Rattle.elab_scopes.specs.Declarations.{joined};
-ghost use Rattle.module_scopes.specs.declared.refusal.Stop.TheVariants as stop;
+ghost use Rattle.elab_scopes.specs.declared.refusal.Stop.TheVariants as stop;
 ghost use Rattle.module_state.specs.Steps.{called_of};
 
 use bumpalo::Bump;
+use elab_scopes::Stop;
 use fut_tree::{ModExp, ModForm};
-use module_scopes::Stop;
 
 /// The text of a path: its names with dots between them.
 #[tactic(auto, using(crate::proofs::Namings::texts))]

@@ -2,9 +2,9 @@
 ghost use Rattle.std.specs.Prelude.{◌≡◌, ◌++◌, IfErr, IfOk, map};
 ghost use Rattle.fut_primitives.specs.Names.{integer_members};
 ghost use Rattle.elab_scopes.specs.Declarations.{other_members, primitive_member, scalar_members};
-ghost use Rattle.module_scopes.specs.Held.{module_ref_of};
-ghost use Rattle.module_scopes.specs.Modules.{contents_of, maybe_contents, modules_of};
-ghost use Rattle.module_scopes.specs.declared.refusal.Stop.TheVariants as stop;
+ghost use Rattle.elab_scopes.specs.Held.{module_ref_of};
+ghost use Rattle.elab_scopes.specs.Modules.{contents_of, maybe_contents, modules_of};
+ghost use Rattle.elab_scopes.specs.declared.refusal.Stop.TheVariants as stop;
 ghost use Rattle.module_state.specs.Standing.{Does, block_of};
 ghost use Rattle.module_state.specs.Steps.{contents_in, open_step};
 
@@ -12,11 +12,11 @@ use crate::blocks::{brought, more_members};
 use crate::naming::called;
 use crate::state::{Block, Declaring};
 use bumpalo::Bump;
+use elab_scopes::{Contents, Member, Members, ModuleRef, Refusal, Stop, contents_at, no_members};
 use fut_flat::{Folding, Primitive, Ref};
 use fut_primitives::line_of;
 use fut_scalar::{IntType, ScalarType};
 use fut_tree::ModExp;
-use module_scopes::{Contents, Member, Members, ModuleRef, Refusal, Stop, contents_at, no_members};
 
 /// Members that others share.
 #[derive(Clone, Copy)]
@@ -185,7 +185,7 @@ pub fn opened<'a>(
 ) -> Result<Block<'a>, Stop<'a>>
     ensures { Does block_of (open_step is_local body.now (module_ref_of of) (block_of block.entry)) state.old state.new result }
 {
-    let contents = match contents_of(state.modules.as_slice(), of, bump) {
+    let contents = match contents_of(state.names.modules(), of, bump) {
         Ok(contents) => contents,
         Err(stop) => return Err(stop),
     };

@@ -4,13 +4,13 @@ ghost use Rattle.fut_ast.specs.ModRows.{mod_at};
 ghost use Rattle.fut_ast.specs.declared.module.ModForm.TheVariants as form;
 ghost use Rattle.fut_tree.specs.ModTypes.{label_of, params_of};
 ghost use Rattle.fut_tree.specs.Names.{maybe};
-ghost use Rattle.module_scopes.specs.declared.refusal.Stop.TheVariants as stop;
+ghost use Rattle.elab_scopes.specs.declared.refusal.Stop.TheVariants as stop;
 ghost use Rattle.module_state.specs.Steps.{with_parameters};
 
 use bumpalo::Bump;
+use elab_scopes::Stop;
 use fut_scalar::Place;
 use fut_tree::{ModExp, ModForm, ModType, Param};
-use module_scopes::Stop;
 
 /// What is behind a parameter: the module type of a body, and the body.
 #[derive(Clone, Copy)]

@@ -3,14 +3,14 @@ ghost use Rattle.std.specs.Prelude.{◌≡◌, [], cond, option_map};
 ghost use Rattle.fut_tree.specs.Names.{names};
 ghost use Rattle.elab_scopes.specs.Declarations.{State, function_in, hidden, shown};
 ghost use Rattle.elab_scopes.specs.Imports.{item};
-ghost use Rattle.module_scopes.specs.Held.{module_ref_of};
-ghost use Rattle.module_scopes.specs.Modules.{maybe_contents, modules_of};
+ghost use Rattle.elab_scopes.specs.Held.{module_ref_of};
+ghost use Rattle.elab_scopes.specs.Modules.{maybe_contents, modules_of};
 ghost use Rattle.module_state.specs.Standing.{Does, Stands, functor_of, here_of, meeting_of, signature_of};
 ghost use Rattle.module_state.specs.Steps.{contents_in, named_signature, path_module};
 
 use crate::state::{Declaring, Functor, Here, Meeting, Signature};
+use elab_scopes::{Contents, ModuleRef, Refusal, Stop, contents_at, module_at, signature_at};
 use fut_scalar::Place;
-use module_scopes::{Contents, ModuleRef, Refusal, Stop, contents_at, module_at, signature_at};
 
 /// The module that a path names.
 pub fn path_module<'a>(
@@ -24,7 +24,7 @@ pub fn path_module<'a>(
     match path {
         [] => Err(Stop::Refused(Refusal::Unbound { name: "", at })),
         [first, rest @ ..] => {
-            match module_at(here.names, state.modules.as_slice(), at, *first, rest) {
+            match module_at(here.names, state.names.modules(), at, *first, rest) {
                 Ok(module) => Ok(module),
                 Err(refusal) => Err(Stop::Refused(refusal)),
             }
@@ -75,7 +75,7 @@ pub fn signature_named<'a>(
 ) -> Result<u32, Stop<'a>>
     ensures { Does (λ k. k) (named_signature (here_of here.entry) at (names path.now)) state.old state.new result }
 {
-    match signature_at(here.names, state.modules.as_slice(), at, path) {
+    match signature_at(here.names, state.names.modules(), at, path) {
         Ok(number) => Ok(number),
         Err(refusal) => Err(Stop::Refused(refusal)),
     }

@@ -1,17 +1,16 @@
 // What was declared so far.
 ghost use Rattle.std.specs.Prelude.{◌≡◌};
 ghost use Rattle.elab_scopes.specs.Declarations.{new_functor, new_module, with_signature};
-ghost use Rattle.module_scopes.specs.Held.{module_ref_of};
-ghost use Rattle.module_scopes.specs.Modules.{contents_of};
+ghost use Rattle.elab_scopes.specs.Held.{module_ref_of};
+ghost use Rattle.elab_scopes.specs.Modules.{contents_of};
 ghost use Rattle.module_state.specs.Standing.{Does, functor_of, signature_of};
 ghost use Rattle.module_state.specs.Steps.{new_signature};
 
 use bumpalo::Bump;
-use elab_scopes::Names;
+use elab_scopes::{Contents, Members, ModuleRef, Names, Stop};
 use fut_flat::{Definition, Ref};
 use fut_scalar::List;
 use fut_tree::{ModExp, ModType};
-use module_scopes::{Contents, Members, ModuleRef, Stop};
 
 /// What an application of a parametric module gives.
 #[derive(Clone, Copy)]
@@ -89,10 +88,10 @@ pub struct Specified<'a> {
     pub met: &'a Members<'a>,
 }
 
-/// All that was declared so far.
+/// All that was declared so far. The names hold the modules by their numbers.
+#[derive(Drop)]
 pub struct Declaring<'a> {
     pub names: Names<'a>,
-    pub modules: List<Contents<'a>>,
     pub functors: List<Functor<'a>>,
     pub signatures: List<Signature<'a>>,
     pub definitions: Vec<Definition<'a>, &'a Bump>,
@@ -109,11 +108,8 @@ pub fn new_module<'a>(
 ) -> Result<ModuleRef, Stop<'a>>
     ensures { Does module_ref_of (new_module (contents_of contents.entry)) state.old state.new result }
 {
-    let Ok(number) = u32::try_from(state.modules.len()) else {
-        return Err(Stop::Memory);
-    };
-    match state.modules.push(contents) {
-        Ok(()) => Ok(ModuleRef::Made(number)),
+    match state.names.add_module(contents) {
+        Ok(number) => Ok(ModuleRef::Made(number)),
         Err(_) => Err(Stop::Memory),
     }
 }

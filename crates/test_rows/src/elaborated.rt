@@ -142,6 +142,8 @@ fn show_refusal(refusal: &ModErr<'_>, shown: &mut Shown) {
         ModErr::Unbound { name, at } => show_named("! unbound ", *name, *at, shown),
         ModErr::Twice { name, at } => show_named("! twice ", *name, *at, shown),
         ModErr::NoMember { name, at } => show_named("! no member ", *name, *at, shown),
+        ModErr::SealMissing { name, at } => show_named("! seal missing ", *name, *at, shown),
+        ModErr::TooManyApplications { at } => shown.placed("! too many applications ", *at),
         ModErr::NotYet { at } => shown.placed("! not yet ", *at),
         ModErr::Memory => shown.push("! memory"),
     }

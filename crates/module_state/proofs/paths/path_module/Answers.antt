@@ -7,7 +7,7 @@ pub returns-in-empty : goal.returns-in-empty
 returns-in-empty c = path_empty _ (here_of c.args.here) _ _ _ _ c.in-empty.len_below refl
 
 pub returns-in-Ok : goal.returns-in-Ok
-returns-in-Ok c = path_went c.args.path.now _ (here_of c.args.here) _ _ c.module_at.result c.in-len1-up.len_at_least _ c.as_slice.ensures c.module_at.ensures _ c.in-Ok.is
+returns-in-Ok c = path_went c.args.path.now _ (here_of c.args.here) _ _ c.module_at.result c.in-len1-up.len_at_least _ c.modules.ensures c.module_at.ensures _ c.in-Ok.is
 
 pub returns-in-Err : goal.returns-in-Err
-returns-in-Err c = path_stopped c.args.path.now _ (here_of c.args.here) _ _ c.module_at.result c.in-len1-up.len_at_least _ c.as_slice.ensures c.module_at.ensures _ c.in-Err.is
+returns-in-Err c = path_stopped c.args.path.now _ (here_of c.args.here) _ _ c.module_at.result c.in-len1-up.len_at_least _ c.modules.ensures c.module_at.ensures _ c.in-Err.is

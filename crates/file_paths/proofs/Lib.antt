@@ -1,0 +1,3 @@
+mod Splitting
+mod Tidying
+mod Joining

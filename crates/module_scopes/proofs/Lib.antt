@@ -1,5 +1,0 @@
-mod Slices
-mod Bytes
-mod Trees
-mod Indexes
-mod Ways

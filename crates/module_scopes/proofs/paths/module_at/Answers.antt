@@ -1,9 +1,0 @@
-use Rattle.std.proofs.Common.{refl}
-use Rattle.module_scopes.proofs.Ways.{module_at_is}
-use Rattle.module_scopes.proofs.paths.module_at.Goals as goal
-
-pub returns-in-Some : goal.returns-in-Some
-returns-in-Some c = module_at_is _ _ _ _ _ _ _ c.in-Some.ensures c.module_inside.ensures
-
-pub returns-in-None : goal.returns-in-None
-returns-in-None c = module_at_is _ _ _ _ _ _ _ c.in-None.ensures refl
