@@ -29,7 +29,7 @@ abbrev FlatFields : Type 0
 FlatFields = Fields Ref BindId (Unit {0})
 
 -- two parts that are equal
-both : {A B C : Type 0} (k : A → B → C) {a a' : A} {b b' : B} → a ≡ a' → b ≡ b' → k a b ≡ k a' b'
+pub both : {A B C : Type 0} (k : A → B → C) {a a' : A} {b b' : B} → a ≡ a' → b ≡ b' → k a b ≡ k a' b'
 both k {a' = a'} {b = b} e h = ap (λ z. k z b) e ∙ ap (k a') h
 
 mutual
@@ -75,7 +75,7 @@ unfolding data_told
 data_same bs s_none = refl
 data_same bs (s_and s t) = conds _ _ (function_same s) (data_same bs t) (both (λ (a : Argument) xs. a ∷ xs) (both (λ (h : Shape) (n : Option ℤ). (h, n)) (shape_same s) (worth_same s)) (data_same bs t))
 
-nodes_same : {n m : ℕ} {ls inner : Locals} {ps : Patterns Spelled Label} {qs : Patterns Ref BindId} (q q' : ℕ) → q ≡ q' → Patterns_resolved n ls ps qs m inner → nodes_from ps q ≡ nodes_from qs q'
+pub nodes_same : {n m : ℕ} {ls inner : Locals} {ps : Patterns Spelled Label} {qs : Patterns Ref BindId} (q q' : ℕ) → q ≡ q' → Patterns_resolved n ls ps qs m inner → nodes_from ps q ≡ nodes_from qs q'
 nodes_same q q' e (p_none a) = refl
 nodes_same q q' e (p_and r rs) = both (λ (x : ℕ) xs. x ∷ xs) e (nodes_same _ _ (omega (arith, e, pattern_numbers_same r)) rs)
 

@@ -12,10 +12,10 @@ use Rattle.fut_flat.specs.Erased.{FlatTerm, FlatPattern, FlatType}
 use Rattle.fut_flat.specs.Terms.{Type_use, no_arg, Bound_pattern, no_pattern, pattern_and, Integer, Array_of, Coerce, Use, Strict, Lambda, Apply, Let, no_term, term_and}
 use Rattle.fut_types.specs.declared.Head.TheVariants as head
 use Rattle.fut_value.specs.Data.{Shape, Scalar_shape, Array_shape, Unmet_shape, no_datum, shape_of, words, array_words, weight, heaviest, same_sizes}
-use Rattle.sized_types.specs.Sizes.{Const, Name, At, Inferred, Size, Hole, Level, Built, Fun, no_size, is_free, is_dim}
+use Rattle.sized_types.specs.Sizes.{Const, Name, Dim, At, Inferred, Size, Hole, Level, Built, Fun, no_size, is_free, is_dim}
 use Rattle.sized_types.specs.Standing.{is_known, gives_chosen}
 use Rattle.fut_meaning.specs.Outcomes.{Out, Val, Fail, exact, goes_on}
-use Rattle.fut_meaning.specs.Values.{Scalar_value, Array_value, base, bind, entered, Evaluate}
+use Rattle.fut_meaning.specs.Values.{Scalar_value, Array_value, Closure, base, bind, entered, Evaluate}
 use Rattle.fut_meaning.specs.Accessors.{bound}
 use Rattle.fut_meaning.specs.Datums.{datum_of}
 use Rattle.fut_meaning.specs.Arrays.{made, array}
@@ -23,7 +23,8 @@ use Rattle.fut_meaning.specs.Jobs.{job}
 use Rattle.fut_meaning.specs.Operations.{report, operate, coerced}
 use Rattle.fut_meaning.specs.Places.{place}
 use Rattle.fut_meaning.specs.Found.{Told, unsized, told_shape, result_shape, with_results, has_sizes}
-use Rattle.fut_meaning.specs.Telling.{size_value, primitive_tells, value_shape, data_told, closure_tells, found, tells, function_tells}
+use Rattle.fut_meaning.specs.Telling.{primitive_tells, value_shape, data_told, closure_tells, found, tells, function_tells}
+use Rattle.fut_meaning.specs.Taken.{size_value, told, taken, passed, says, beside}
 use Rattle.fut_meaning.specs.Meaning.{plain, row_told, fits_type, Ever}
 use Rattle.fut_ast.specs.Sorts.{Text}
 use Rattle.fut_flat.specs.Sources.{SourceTerm, label, spelled}
@@ -137,7 +138,7 @@ abbrev of_parameter : ℕ → Size
 of_parameter n = cond (nat_eq n 2) (Level (At (Name 0)) i64) (Hole (Inferred 0))
 
 size_of_three : Sized_gives of_parameter (base tt) (Apply size_of_rows (Strict Array_of at (term_and (int 7) (term_and (int 8) (term_and (int 9) no_term))))) (Val (long 3)) 3
-unfolding bound flat_look flat_names operate coerced plain row_told made array shape_of words array_words weight heaviest same_sizes place told_shape with_results value_shape found tells is_dim is_free size_value datum_of
+unfolding bound flat_look flat_names operate coerced plain row_told made array shape_of words array_words weight heaviest same_sizes place told_shape with_results value_shape found tells is_dim is_free size_value told datum_of
 size_of_three =
     close _ _ _ _ _ _ (goes_on {f = 0} {g = 3} (close _ _ _ _ _ _ exact) (goes_on {f = 3} {g = 0}
     (close _ _ _ _ _ _ (goes_on {f = 0} {g = 3}
@@ -153,7 +154,7 @@ abbrev no_row_of_three : FlatEnv
 no_row_of_three = bind (record { 0 = 4 }) (Array_value (Array_shape 3 row) no_datum) (base tt)
 
 size_of_missing_rows : Sized_gives of_rows_of no_row_of_three (Apply size_of_rows (var 4)) (Val (long 3)) 0
-unfolding bound flat_look flat_names plain shape_of place told_shape with_results value_shape found tells is_dim is_free size_value
+unfolding bound flat_look flat_names plain shape_of place told_shape with_results value_shape found tells is_dim is_free size_value told
 size_of_missing_rows =
     close _ _ _ _ _ _ (goes_on {f = 0} {g = 0} (close _ _ _ _ _ _ exact) (goes_on {f = 0} {g = 0} (close _ _ _ _ _ _ exact)
     (close _ _ _ _ _ _ (goes_on {f = 0} {g = 0} exact (close _ _ _ _ _ _ exact)))))
@@ -174,7 +175,41 @@ abbrev two_outside : SourceEnv
 two_outside = bind (label letter_x at) (Array_value (Array_shape 3 row) no_datum) (bind (label letter_n at) (Scalar_value (scalar.Int I64 2)) (base (λ p. Names_nothing)))
 
 size_in_a_source : Source_gives of_rows_of two_outside (Apply (Lambda (pattern_and (Bound_pattern (label letter_x at)) no_pattern) (Use (spelled (letter_n ∷ []) at) at 0)) (Use (spelled (letter_x ∷ []) at) at 0)) (Val (Scalar_value (scalar.Int I64 3)))
-unfolding bound source_look source_names plain shape_of place told_shape with_results value_shape found tells is_dim is_free size_value
+unfolding bound source_look source_names plain shape_of place told_shape with_results value_shape found tells is_dim is_free size_value told
 size_in_a_source =
+    close _ _ _ _ _ _ (goes_on {f = 0} {g = 0} (close _ _ _ _ _ _ exact) (goes_on {f = 0} {g = 0} (close _ _ _ _ _ _ exact)
+    (close _ _ _ _ _ _ (goes_on {f = 0} {g = 0} exact (close _ _ _ _ _ _ exact)))))
+
+-- ---- \(g: [n]i64 -> i64) -> n: nothing tells n but the function itself, by the size that it takes
+
+abbrev of_function : Dim → ℕ → Size
+of_function d n = cond (nat_eq n 2) (Fun 0 (Level (At (Name 0)) i64) i64) (cond (nat_eq n 50) (Level d i64) i64)
+
+-- \(xs: [d]i64) -> xs, where a name that is bound at node 108 is 7
+abbrev function_seen : FlatEnv
+function_seen = entered 108 (Scalar_value (scalar.Int I64 7)) (base tt)
+
+abbrev function_at_four : FlatEnv
+function_at_four = bind (record { 0 = 4 }) (Closure (pattern_and (Bound_pattern (record { 0 = 6 })) no_pattern) (var 6) 51 function_seen) (base tt)
+
+abbrev Taken_is : Dim → ℕ → Type 0
+Taken_is d z = Sized_gives (of_function d) function_at_four (Apply size_of_rows (var 4)) (Val (long z)) 0
+
+size_that_a_function_takes : Taken_is (At (Const 5)) 5
+unfolding bound flat_look flat_names plain place value_shape found tells is_dim is_free size_value told taken passed says beside is_known
+size_that_a_function_takes =
+    close _ _ _ _ _ _ (goes_on {f = 0} {g = 0} (close _ _ _ _ _ _ exact) (goes_on {f = 0} {g = 0} (close _ _ _ _ _ _ exact)
+    (close _ _ _ _ _ _ (goes_on {f = 0} {g = 0} exact (close _ _ _ _ _ _ exact)))))
+
+size_by_a_name : Taken_is (At (Name 8)) 7
+unfolding bound flat_look flat_names plain place value_shape found tells is_dim is_free size_value told taken passed says beside is_known
+size_by_a_name =
+    close _ _ _ _ _ _ (goes_on {f = 0} {g = 0} (close _ _ _ _ _ _ exact) (goes_on {f = 0} {g = 0} (close _ _ _ _ _ _ exact)
+    (close _ _ _ _ _ _ (goes_on {f = 0} {g = 0} exact (close _ _ _ _ _ _ exact)))))
+
+-- what the function itself does not know is 0
+size_that_nothing_tells : Taken_is (At (Name 9)) 0
+unfolding bound flat_look flat_names plain place value_shape found tells is_dim is_free size_value told taken passed says beside is_known
+size_that_nothing_tells =
     close _ _ _ _ _ _ (goes_on {f = 0} {g = 0} (close _ _ _ _ _ _ exact) (goes_on {f = 0} {g = 0} (close _ _ _ _ _ _ exact)
     (close _ _ _ _ _ _ (goes_on {f = 0} {g = 0} exact (close _ _ _ _ _ _ exact)))))

@@ -133,7 +133,7 @@ abbrev pub is_number : Size → Bool
 is_number (Built (head.Scalar (sort.Int t)) ts) = true
 is_number t = false
 
-abbrev pub named_worth : (ℕ → ℕ) → ℕ → Size → Option ℤ → Free → Option ℤ → Option ℤ
+abbrev pub named_worth : {A : Type 0} → (ℕ → ℕ) → ℕ → Size → A → Free → A → A
 named_worth home q t n (Name b) o = cond (nat_eq (home b) q && is_number t) n o
 named_worth home q t n d o = o
 

@@ -14,8 +14,6 @@ use Rattle.fut_flat.specs.Numbers.{pattern_numbers, all_pattern_numbers}
 use Rattle.fut_flat.specs.Terms.{Patterns, no_pattern, pattern_and}
 use Rattle.fut_value.specs.Data.{Shape, Scalar_shape, Tuple_shape, Record_shape, Array_shape, Unmet_shape, Shapes, no_shape, shape_and, Named_shapes, no_named_shape, named_shape_and, Datum, Array_datum, shape_of}
 use Rattle.fut_meaning.specs.Values.{Value, Scalar_value, Tuple_value, Record_value, Array_value, Closure, Primitive_value, Values, no_value, value_and, Fields, no_field, field_and, Env, base, bind, entered}
-use Rattle.sized_types.specs.Sizes.{At, Name}
-use Rattle.fut_meaning.specs.Operators.{integer}
 use Rattle.fut_meaning.specs.Places.{row_of, size_of}
 use Rattle.fut_meaning.specs.Found.{Sizing, Found, nothing_found, result_shape, number, shape_found, count, with_data, with_results, with_worth}
 
@@ -217,10 +215,6 @@ module _ (Z : Sizing) where
       pub function_tells : Values P B S → List Shape → Shape
       function_tells no_value hs = Unmet_shape
       function_tells (value_and v vs) hs = cond (is_function v) (tells v hs) (function_tells vs hs)
-
--- a size's name as an expression: what the size is under these names, and 0 where it is found nowhere
-unfoldable pub size_value : {P B S : Type 0} → Sizing → Env P B S → ℕ → Value P B S
-size_value Z env b = Scalar_value (integer I64 (pos (number (found Z env) (At (Name b)))))
 
 -- the shapes of the arguments of a primitive's function, where it has these data
 abbrev pub rows_for : Primitive → List Datum → List Shape

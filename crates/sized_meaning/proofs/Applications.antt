@@ -34,7 +34,7 @@ use Rattle.sized_meaning.specs.Worth.{Worth, free, no_frames, push}
 use Rattle.sized_meaning.specs.Shapes.{Meant}
 use Rattle.sized_meaning.specs.Finding.{One_kind_each}
 use Rattle.sized_meaning.specs.Fits.{Gives, word, Fits}
-use Rattle.fut_meaning.specs.Telling.{size_value}
+use Rattle.fut_meaning.specs.Taken.{size_value}
 use Rattle.sized_meaning.specs.Law.{Sound, No_size_use, Plain_term, World, told, FlatTask, means, calls, Beyond as Out_beyond, Env_fits, Result as Res}
 use Rattle.sized_meaning.proofs.Ways.{gives_as}
 use Rattle.sized_meaning.proofs.Outcomes.{gives_exact, gives_then, gives_all, is_exactly}

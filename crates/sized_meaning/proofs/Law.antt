@@ -27,7 +27,7 @@ use Rattle.fut_typing.specs.Names.{Names}
 use Rattle.fut_meaning.specs.Accessors.{bound, truth_of, turns_of}
 use Rattle.fut_meaning.specs.Arrays.{rows_of}
 use Rattle.fut_meaning.specs.Datums.{as_value, datum_of}
-use Rattle.fut_meaning.specs.Telling.{size_value}
+use Rattle.fut_meaning.specs.Taken.{size_value}
 use Rattle.fut_meaning.proofs.Safe.{Every}
 use Rattle.fut_meaning.specs.Flats.{FlatValue, FlatEnv, flat_look, flat_names}
 use Rattle.fut_meaning.specs.Meaning.{placed, plain, row_told, fits_type, Of_literal, looped, counts}

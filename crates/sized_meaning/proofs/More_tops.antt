@@ -18,7 +18,7 @@ use Rattle.fut_meaning.specs.Meaning.{Lang, plain, row_told, fits_type, counts, 
 use Rattle.fut_meaning.specs.Operations.{report, parameters_of, arity, is_of_scalars}
 use Rattle.fut_meaning.specs.Outcomes.{Out, Val, Wrong, the}
 use Rattle.fut_meaning.specs.Programs.{top}
-use Rattle.fut_meaning.specs.Telling.{size_value}
+use Rattle.fut_meaning.specs.Taken.{size_value}
 use Rattle.fut_meaning.specs.Values.{Scalar_value, Tuple_value, Record_value, Array_value, Closure, Primitive_value, base, bind, entered, Task, Evaluate, Call, Meanings, listed}
 use Rattle.fut_value.specs.Data.{Datum}
 use Rattle.fut_meaning.proofs.Fitting.{Fitted, Fitted_out, fits, misfits, fitted_same, fitted_the, fitted_then, fitted_choose, fitted_each_of, fitted_turns, fitted_while}

@@ -37,7 +37,8 @@ use Rattle.fut_meaning.specs.Operations.{report, named_values, with_name, report
 use Rattle.fut_meaning.specs.Operators.{binary_result, unary_result}
 use Rattle.fut_meaning.specs.Outcomes.{Out, Val, Fail, Wrong, and_then, Rel, the, Then, choose, each_of, turns, while_turns, Tree, element, neutral, node, tree_gives, bracket}
 use Rattle.fut_meaning.specs.Programs.{Seen, seeing, below_names, top, evaluated, applied_to}
-use Rattle.fut_meaning.specs.Telling.{is_function, size_value}
+use Rattle.fut_meaning.specs.Telling.{is_function}
+use Rattle.fut_meaning.specs.Taken.{size_value}
 use Rattle.fut_meaning.specs.Values.{Scalar_value, Tuple_value, Record_value, Array_value, Closure, Primitive_value, no_value, value_and, no_field, field_and, base, bind, entered, Evaluate, Call, Meanings, listed, is_before, values, with_field, fields, field, replaced}
 use Rattle.fut_meaning.proofs.FittingForms.{fitted_loses_nothing}
 use Rattle.fut_meaning.proofs.Safe.{Every}

@@ -19,7 +19,7 @@ use Rattle.fut_meaning.specs.Found.{is_number}
 use Rattle.fut_meaning.specs.Meaning.{plain}
 use Rattle.fut_meaning.specs.Operators.{integer}
 use Rattle.fut_meaning.specs.Outcomes.{Val}
-use Rattle.fut_meaning.specs.Telling.{size_value}
+use Rattle.fut_meaning.specs.Taken.{size_value}
 use Rattle.fut_meaning.specs.Values.{Scalar_value, Evaluate}
 use Rattle.fut_meaning.proofs.Ever.{open_up}
 use Rattle.sized_types.specs.Sizes.{Free, Const, Name, Unknown, Variable, Size, Hole, Open, Level, Built, Fun, Sizes, no_size, size_and}

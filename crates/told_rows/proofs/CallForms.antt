@@ -23,7 +23,7 @@ use Rattle.unfold.specs.declared.known.Names.{Names as Held_names}
 use Rattle.unfold.specs.declared.known.Scope.{Scope as Held_scope}
 use Rattle.unfold.specs.Held.{known_of, entered_of, scope_of}
 use Rattle.unfold.specs.Knowns.{seeing, entry}
-use Rattle.unfold.specs.Telling.{enter, found, literal_row, number, results_row, rows_in, size_used, size_test, tells, test_at, told_row, rows_for}
+use Rattle.unfold.specs.Telling.{enter, expression, found, literal_row, number, results_row, rows_in, size_used, size_test, tells, test_at, told_row, rows_for}
 use Rattle.told_rows.specs.declared.tables.Sizes as tables
 use Rattle.told_rows.specs.Arguments.{rows_of}
 use Rattle.told_rows.specs.Calls.{maybe_extent, maybe_test}
@@ -61,11 +61,11 @@ module _ (s : tables.Sizes) (Z : Sizing) (w : Tells s Z) where
   pub test_as : (sc : Held_scope) (q : ℕ) (t : Size) (made : Bor SizeTest) → t ≡ node_at s.nodes.now q → test_of made.now ≡ size_test Z.fields (found Z (entered_of sc.entered.now)) t → maybe_test (Some made) ≡ test_at (Some Z) (scope_of sc) q
   test_as sc q t made node h = ap Some (h ∙ ap (size_test Z.fields (found Z (entered_of sc.entered.now))) (node ∙ sym (w.nodes q)))
 
-  pub used_as : (sc : Held_scope) (k : ℕ) (many : Held_extent) → true ≡ get_or s.are_sizes.now k false → extent_of many ≡ number (found Z (entered_of sc.entered.now)) (At (Name k)) → maybe_extent (Some many) ≡ size_used (Some Z) (scope_of sc) k
-  used_as sc k many i h = ap Some h ∙ sym (ap (λ z. cond z (Some (number (found Z (entered_of sc.entered.now)) (At (Name k)))) None) (w.sizes k ∙ sym i))
+  pub used_as : (sc : Held_scope) (k : ℕ) (many : Held_extent) → true ≡ get_or s.are_sizes.now k false → extent_of many ≡ expression Z (entered_of sc.entered.now) (At (Name k)) → maybe_extent (Some many) ≡ size_used (Some Z) (scope_of sc) k
+  used_as sc k many i h = ap Some h ∙ sym (ap (λ z. cond z (Some (expression Z (entered_of sc.entered.now) (At (Name k)))) None) (w.sizes k ∙ sym i))
 
   pub unused_as : (sc : Held_scope) (k : ℕ) → false ≡ get_or s.are_sizes.now k false → maybe_extent None ≡ size_used (Some Z) (scope_of sc) k
-  unused_as sc k i = sym (ap (λ z. cond z (Some (number (found Z (entered_of sc.entered.now)) (At (Name k)))) None) (w.sizes k ∙ sym i))
+  unused_as sc k i = sym (ap (λ z. cond z (Some (expression Z (entered_of sc.entered.now) (At (Name k)))) None) (w.sizes k ∙ sym i))
 
 -- ---- the rows of data
 

@@ -13,4 +13,5 @@ pub mod TestForms
 pub mod ArgumentForms
 pub mod TellForms
 pub mod AskForms
+pub mod TakenForms
 pub mod CallForms

@@ -4,3 +4,4 @@ pub mod Places
 pub mod Findings
 pub mod Arguments
 pub mod Calls
+pub mod Taken

@@ -12,8 +12,9 @@ ghost use Rattle.unfold.specs.Telling.{enter, function_row, literal_row, rows_fo
 use crate::findings::Findings;
 use crate::shapes::{rows_in, shape, unknown};
 use crate::tables::{Sizes, is_size, size_at};
+use crate::taken::expression;
 use crate::telling::{results_row, tells};
-use crate::testing::{number_found, size_test};
+use crate::testing::size_test;
 use crate::told::told_row;
 use bumpalo::Bump;
 use bumpalo::collections::into_bump_slice;
@@ -150,6 +151,6 @@ pub fn size_used<'a>(
         return Ok(None);
     }
     let dim = Dim::At(Free::Name(number));
-    let many = number_found(dim, scope.entered, sizes, bump)?;
+    let many = expression(dim, scope.entered, sizes, bump)?;
     Ok(Some(many))
 }

@@ -17,6 +17,7 @@ mod searching;
 mod shapes;
 mod standing;
 mod tables;
+mod taken;
 mod telling;
 mod testing;
 mod told;

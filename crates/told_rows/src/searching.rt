@@ -73,8 +73,8 @@ fn results_there<'a>(
     }
 }
 
-// In what the pattern of a sized type was entered with.
-fn entry_there<'a>(
+/// In what the pattern of a sized type was entered with.
+pub fn entry_there<'a>(
     tree: &SizeTree<'a>,
     sought: Sought,
     known: &Known<'a>,
@@ -129,8 +129,8 @@ fn is_number(tree: &SizeTree<'_>) -> bool
     }
 }
 
-// Whether a pattern of a sized type at a node binds the name that a size is.
-fn is_its_name<'a>(
+/// Whether a pattern of a sized type at a node binds the name that a size is.
+pub fn is_its_name<'a>(
     tree: &SizeTree<'a>,
     node: u32,
     size: Free,

@@ -89,8 +89,8 @@ fn parameters_given<'a>(
     Ok(into_bump_slice(given))
 }
 
-// The node of a closure's first pattern.
-fn first_pattern(function: &Function<'_>) -> Result<u32, NoMemory>
+/// The node of a closure's first pattern.
+pub fn first_pattern(function: &Function<'_>) -> Result<u32, NoMemory>
     ensures { IfOk result (λ node. node ≡ function.now.first - all_pattern_numbers (patterns (map pattern_of function.now.parameters.now))) }
 {
     let many = after_patterns(0, function.parameters)?;

@@ -15,7 +15,7 @@ use Rattle.fut_typing.specs.Primitives.{i64_ty, prim_type}
 use Rattle.fut_typing.specs.Scopes.{Scope, Used}
 use Rattle.fut_meaning.specs.Found.{Told, Sizing}
 use Rattle.fut_meaning.specs.Outcomes.{Val}
-use Rattle.fut_meaning.specs.Telling.{size_value}
+use Rattle.fut_meaning.specs.Taken.{size_value}
 use Rattle.fut_meaning.specs.Values.{Primitive_value, no_value}
 use Rattle.fut_meaning.specs.Operators.{lowest, highest}
 use Rattle.fut_meaning.specs.Operations.{arity, is_of_scalars, primitive_use}

@@ -3,6 +3,7 @@ pub mod Rows
 pub mod Alike
 pub mod Stands
 pub mod Told
+pub mod Taken
 pub mod Patterns
 pub mod Components
 pub mod Runs

@@ -33,7 +33,8 @@ use Rattle.unfold.specs.Telling.{found, size_test, test_at, function_row}
 use Rattle.unfold.specs.Unfolding.{u_size, function_known}
 use Rattle.unfold.specs.Knowns.{Tuple_known, listed}
 use Rattle.unfold.proofs.Rows.{test_is}
-use Rattle.unfold.proofs.Told.{known_is, found_says, literal_is, result_shape_is, Size_is, size_is, no_size_is}
+use Rattle.unfold.proofs.Told.{known_is, found_says, literal_is, result_shape_is}
+use Rattle.unfold.proofs.Taken.{Size_is, size_is, no_size_is}
 use Rattle.unfold.proofs.Operating.{Told_test}
 use Rattle.fut_meaning.specs.Meaning.{Lang, plain, row_told, fits_type, counts, placed, called, no_function, job_of, runs, given, looped, step, Ever}
 use Rattle.fut_meaning.specs.Meaning as meaning

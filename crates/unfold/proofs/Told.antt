@@ -4,23 +4,19 @@ use Rattle.std.specs.Prelude.{ℤ, pos}
 use Rattle.fut_flat.specs.declared.prim.Primitive.{Primitive}
 use Rattle.fut_flat.specs.declared.prim.Primitive.TheVariants as prim
 use Rattle.fut_flat.specs.Numbers.{all_pattern_numbers}
-use Rattle.fut_scalar.specs.declared.scalar.IntType.TheVariants.{I64}
 use Rattle.fut_scalar.specs.declared.scalar.ScalarType.{ScalarType}
 use Rattle.fut_value.specs.Data.{Shape, Scalar_shape, Tuple_shape, Record_shape, Unmet_shape, shape_and, named_shape_and, Datum, Scalar_datum, Tuple_datum, Record_datum, Array_datum, Datums, no_datum, datum_and, Named_datums, no_named, named_and, shape_of, shapes_of, named_shapes_of}
-use Rattle.sized_types.specs.Sizes.{At, Name}
 use Rattle.fut_meaning.specs.Datums.{as_value, as_values, as_fields}
-use Rattle.fut_meaning.specs.Flats.{FlatValue, FlatEnv, size_or}
+use Rattle.fut_meaning.specs.Flats.{FlatValue, FlatEnv}
 use Rattle.fut_meaning.specs.Found as meant
 use Rattle.fut_meaning.specs.Found.{Sizing, count}
 use Rattle.fut_meaning.specs.Places.{row_of, size_of}
 use Rattle.fut_meaning.specs.Meaning.{Of_literal, Of_function}
 use Rattle.fut_meaning.specs.Meaning as meaning
-use Rattle.fut_meaning.specs.Operators.{integer}
 use Rattle.fut_meaning.specs.Outcomes.{Out, Val, and_then}
 use Rattle.fut_meaning.specs.Sames.{All_same, all_none, all_more}
 use Rattle.fut_meaning.specs.Telling as meant_of
-use Rattle.fut_meaning.specs.Telling.{value_shape, value_shapes, field_shapes, worth_of, size_value, nodes_from}
-use Rattle.fut_meaning.specs.Values.{Scalar_value}
+use Rattle.fut_meaning.specs.Telling.{value_shape, value_shapes, field_shapes, worth_of, nodes_from}
 use Rattle.fut_blocks.specs.declared.block.Atom.{Atom}
 use Rattle.fut_blocks.specs.Names.{Component, Names}
 use Rattle.fut_blocks.specs.Rows.{Row, Unknown_row, Scalar_row, Shape_of, Unzipped_row, Extent, rows}
@@ -342,32 +338,3 @@ module _ (sizes : Option Sizing) {d : Names Component} {n : ℕ} where
       by_sizing : (z : Option Sizing) {s : Known} {f : FlatValue} {us : List Atom} {ds : List Datum} → Stands z d n s f → All_same (Has d n) us ds → row_shape d (function_row z p s us) ≡ Val (meaning.row_found z (Of_function p f ds))
       by_sizing None h hs = refl
       by_sizing (Some Z) h hs = (tells_say h (for_function p hs)).is
-
--- a size xs an expression is worth this
-pub record Size_is (sizes : Option Sizing) (d : Names Component) (env : FlatEnv) (k : ℕ) (e : Extent) (o : Out FlatValue) : Type 0 where
-  pub worth : Option ℤ
-  pub extent : extent_worth d e ≡ Val worth
-  pub is : size_or sizes env k o ≡ Val (Scalar_value (integer I64 (pos (count worth))))
-
-pub size_is : (sizes : Option Sizing) {d : Names Component} {n : ℕ} {sc : Scope} {env : FlatEnv} (k : ℕ) {e : Extent} (o : Out FlatValue) → Holds sizes d n sc env → size_used sizes sc k ≡ Some e → Size_is sizes d env k e o
-unfolding size_value
-size_is None k {e} o h q = absurd (let z : None ≡ Some e = q in cc)
-size_is (Some Z) {d} {n} {sc} {env} k {e} o h q = by_number (Z.is_size k) refl q
-  where
-    by_number : (b : Bool) → Z.is_size k ≡ b → cond b (Some (number (found Z (entered_in sc)) (At (Name k)))) None ≡ Some e → Size_is (Some Z) d env k e o
-    by_number true i q =
-        record {
-          worth = meant.worth (meant_of.found Z env) (At (Name k));
-          extent = subst (λ z. extent_worth d z ≡ Val (meant.worth (meant_of.found Z env) (At (Name k)))) (some_inj q) (worth_is d (found_says h) (At (Name k)));
-          is = ap (λ z. cond z (Val (size_value Z env k)) o) i;
-        }
-    by_number false i q = absurd (let z : None ≡ Some e = q in cc)
-
--- and any other number is that of a name
-pub no_size_is : (sizes : Option Sizing) (sc : Scope) (env : FlatEnv) (k : ℕ) (o : Out FlatValue) → size_used sizes sc k ≡ None → size_or sizes env k o ≡ o
-no_size_is None sc env k o q = refl
-no_size_is (Some Z) sc env k o q = by_number (Z.is_size k) refl q
-  where
-    by_number : (b : Bool) → Z.is_size k ≡ b → cond b (Some (number (found Z (entered_in sc)) (At (Name k)))) None ≡ None → cond (Z.is_size k) (Val (size_value Z env k)) o ≡ o
-    by_number true i q = absurd (let z : Some (number (found Z (entered_in sc)) (At (Name k))) ≡ None = q in cc)
-    by_number false i q = ap (λ z. cond z (Val (size_value Z env k)) o) i

@@ -15,13 +15,15 @@ use Rattle.fut_meaning.specs.Arrays.{i64}
 use Rattle.fut_meaning.specs.Found.{Sizing, Told}
 use Rattle.fut_meaning.specs.Outcomes.{Val}
 use Rattle.fut_meaning.specs.Places.{place}
+use Rattle.fut_meaning.specs.Taken.{beside}
 use Rattle.fut_blocks.specs.declared.block.Atom.TheVariants as atom
 use Rattle.fut_blocks.specs.Plain.{Size_of}
 use Rattle.fut_blocks.specs.Plain as act
 use Rattle.fut_blocks.specs.Rows.{Unknown_row, Scalar_row, Array_row, Shape_of, Extent, Exactly, Worth_of, Length_of, Any_size, Array_test}
 use Rattle.fut_blocks.specs.Sizes.{row_shape}
 use Rattle.unfold.specs.Knowns.{Known, Function_known, Scope, seeing, nothing_seen, no_name, no_entry, entry, name_and, name_by, local, local_by, find}
-use Rattle.unfold.specs.Telling.{told_row, result_row, closure_tells, known_row, found, tells, function_row, literal_row, size_test, enter}
+use Rattle.unfold.specs.Telling as telling
+use Rattle.unfold.specs.Telling.{passed, says, told_row, result_row, closure_tells, known_row, found, tells, function_row, literal_row, size_test, enter}
 use Rattle.unfold.specs.Unfolding.{named, Unfolds, u_name, u_size, u_strict, u_none, u_more, o_coerce}
 
 here : Place
@@ -59,8 +61,20 @@ abbrev array_length : Extent
 array_length = Length_of (Shape_of (atom.Name 0))
 
 sizes_are_read : Unfolds (told of_array) [] with_array 0 (var 9) 2 ((2 ∷ [], Size_of array_length) ∷ []) (named 2) 3
-unfolding found place name_and name_by known_row is_dim is_free
+unfolding found telling.told place name_and name_by known_row is_dim is_free
 sizes_are_read = u_size refl (omega arith)
+
+-- ---- \(g: [n]i64 -> i64) -> n, for \(xs: [5]i64) -> xs: nothing tells it but the size that the function takes
+
+abbrev of_function : ℕ → Size
+of_function n = cond (nat_eq n 104) (Fun 0 (of_array 0) i64_size) (cond (nat_eq n 50) (Level (At (Const 5)) i64_size) i64_size)
+
+abbrev five_taken : Known
+five_taken = Function_known (pattern_and (name 6) no_pattern) (var 6) 51 nothing_seen
+
+taken_sizes_are_read : Unfolds (told of_function) [] (enter (Some (sizing of_function)) 104 five_taken nothing_seen) 0 (var 9) 2 ((2 ∷ [], Size_of (Exactly 5)) ∷ []) (named 2) 3
+unfolding found telling.told passed says beside tells place known_row is_known is_dim is_free
+taken_sizes_are_read = u_size refl (omega arith)
 
 -- and any other name is what it was
 names_stay : Unfolds (told of_array) [] with_array 0 (var 4) 2 [] (named 0) 2

@@ -16,6 +16,7 @@ use Rattle.sized_types.specs.Sizes.{Free, Const, Name, Dim, At, Bound, Variable,
 use Rattle.sized_types.specs.Standing.{is_known, gives_chosen}
 use Rattle.fut_meaning.specs.Found.{Sizing, is_number}
 use Rattle.fut_meaning.specs.Places.{Path, Whole, In_rows, In_part, In_field, size_place, type_place, on_place}
+use Rattle.fut_meaning.specs.Taken.{tells_size, takes_size, own_size, is_outer, outer_size, on_size}
 use Rattle.fut_meaning.specs.Telling.{nodes_from}
 use Rattle.fut_meaning.specs.Values.{is_before}
 use Rattle.fut_blocks.specs.declared.block.Atom.{Atom}
@@ -332,6 +333,41 @@ module _ (Z : Sizing) where
     function_tells no_known rs = Unknown_row
     function_tells (known_and s ss) rs = cond (is_function s) (tells s rs) (function_tells ss rs)
 
+-- ---- sizes as expressions
+
+-- a size where these are found and told, or else passed with functions
+abbrev pub size_extent : Found → (Free → Bool) → (Free → Extent) → Dim → Extent
+size_extent W told passed (At (Const c)) = Exactly c
+size_extent W told passed (At d) = cond (told d) (W.size d) (passed d)
+size_extent W told passed (Bound j i) = Nowhere
+
+module _ (Z : Sizing) where
+  -- whether something that was entered tells a size, and whether a function takes it
+  unfoldable pub told : Entered → Free → Bool
+  told no_entry d = false
+  told (entry q s r es) d = tells_size Z q d (told es d)
+
+  unfoldable pub taken : Entered → Free → Bool
+  taken no_entry d = false
+  taken (entry q s r es) d = takes_size Z q d (taken es d)
+
+  unfoldable mutual
+    -- by the newest function that was entered and says it
+    pub passed : Entered → Free → Extent
+    passed no_entry d = Nowhere
+    passed (entry q s r es) d = says s (Z.size_at q) (At d) (passed es d)
+
+    -- what a function of a sized type says of a size that it takes
+    pub says : Known → Size → Dim → Extent → Extent
+    says (Function_known ps e lo (seeing names es)) t x otherwise = on_size (outer_size (is_outer (told es) (taken es)) (own_size Z t (nodes_from ps (lo - all_pattern_numbers ps)) x)) (size_extent (found Z es) (told es) (passed es)) otherwise
+    says (Scalar_known u) t x otherwise = otherwise
+    says (Tuple_known ss) t x otherwise = otherwise
+    says (Record_known fs) t x otherwise = otherwise
+    says (Primitive_known p at ss) t x otherwise = otherwise
+
+  abbrev pub expression : Entered → Dim → Extent
+  expression es = size_extent (found Z es) (told es) (passed es)
+
 -- the rows of the arguments of a primitive's function, where it has these data
 abbrev pub rows_for : Primitive → List Atom → List Row
 rows_for prim.Tabulate us = i64_row ∷ []
@@ -381,7 +417,7 @@ test_at (Some Z) sc lo = Some (size_test Z.fields (found Z (entered_in sc)) (Z.s
 -- where a number is that of a size, what the size is worth
 abbrev pub size_used : Option Sizing → Scope → ℕ → Option Extent
 size_used None sc k = None
-size_used (Some Z) sc k = cond (Z.is_size k) (Some (number (found Z (entered_in sc)) (At (Name k)))) None
+size_used (Some Z) sc k = cond (Z.is_size k) (Some (expression Z (entered_in sc) (At (Name k)))) None
 
 -- what is entered with a pattern at a node
 abbrev pub entered_with : Sizing → ℕ → Known → Entered → Entered

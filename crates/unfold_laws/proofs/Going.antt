@@ -27,7 +27,7 @@ use Rattle.type_soundness.specs.Meant.{Use_meant}
 use Rattle.unfold.specs.Knowns.{Known, name_and, Scalar_known, Function_known, Scope as Seen, entered_in, find}
 use Rattle.unfold.specs.Shapes.{Shape, Laid}
 use Rattle.sized_types.specs.Sizes.{Name, At as Free_size}
-use Rattle.unfold.specs.Telling.{number, found, literal_row, test_at, size_used, enter}
+use Rattle.unfold.specs.Telling.{expression, literal_row, test_at, size_used, enter}
 use Rattle.unfold.specs.Stuck.{Binds_to, turn_counted, turn_row, turn_tested, stuck_count, no_count, stuck_rows, no_rows, No_scalar, No_data, Carried, carried, Turn_names, Stuck, no_such_name, stuck_parts, no_operation, stuck_function, stuck_argument, stuck_application, stuck_value, no_pattern_of, stuck_behind, stuck_condition, no_condition, stuck_then, then_function, stuck_else, else_function, stuck_first, first_function, stuck_turns, no_turn, no_row, stuck_test, no_test, stuck_body, turn_function, Stuck_all, stuck_here, stuck_later, Stuck_turns}
 use Rattle.unfold.specs.Unfolding.{Bindings, step, names, named, Binds, Packs, Unfolds, u_name, u_size, u_primitive, u_constant, u_strict, u_lambda, u_apply, u_let, u_packed, u_if, u_counted, u_over, u_while, Unfold_all, u_none, u_more}
 use Rattle.unfold_laws.specs.Components.{components}
@@ -54,11 +54,11 @@ Binds_well N T K there seen p s Q = Bindable p s × ((q : ℕ) (inner : Seen) (n
 -- a number is that of a size, or it is not
 size_there : (z : Option Sizing) (sc : Seen) (k : ℕ) → is_size_in z k ≡ true → (e : Extent) × (size_used z sc k ≡ Some e)
 size_there None sc k is = absurd (let y : false ≡ true = is in cc)
-size_there (Some Z) sc k is = (number (found Z (entered_in sc)) (Free_size (Name k)), ap (λ b. cond b (Some (number (found Z (entered_in sc)) (Free_size (Name k)))) None) is)
+size_there (Some Z) sc k is = (expression Z (entered_in sc) (Free_size (Name k)), ap (λ b. cond b (Some (expression Z (entered_in sc) (Free_size (Name k)))) None) is)
 
 no_size_there : (z : Option Sizing) (sc : Seen) (k : ℕ) → is_size_in z k ≡ false → size_used z sc k ≡ None
 no_size_there None sc k is = refl
-no_size_there (Some Z) sc k is = ap (λ b. cond b (Some (number (found Z (entered_in sc)) (Free_size (Name k)))) None) is
+no_size_there (Some Z) sc k is = ap (λ b. cond b (Some (expression Z (entered_in sc) (Free_size (Name k)))) None) is
 
 module _ (N : Names) (are : AreNames N) (T : Told) (P : ℕ → Type 0) (K : Kinds) where
   abbrev At : World → Ty → Known → Type 0

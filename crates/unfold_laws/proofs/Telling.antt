@@ -7,18 +7,19 @@ use Rattle.fut_flat.specs.declared.prim.Primitive.TheVariants as prim
 use Rattle.fut_flat.specs.Numbers.{all_pattern_numbers}
 use Rattle.fut_types.specs.declared.Head.{Head}
 use Rattle.fut_types.specs.declared.Head.TheVariants as head
-use Rattle.sized_types.specs.Sizes.{Free, Const, Name, Dim, At, Bound, Variable, Size, Hole, Open, Level, Built, Fun, Sizes, no_size, size_and}
+use Rattle.sized_types.specs.Sizes.{Free, Const, Name, Own, Unknown, Slot, Dim, At, Bound, Variable, Size, Hole, Open, Level, Built, Fun, Sizes, no_size, size_and}
 use Rattle.sized_types.specs.Standing.{is_known, gives_chosen}
 use Rattle.fut_meaning.specs.Found.{Sizing, is_number}
 use Rattle.fut_meaning.specs.Places.{Path, Whole, In_rows, In_part, In_field, size_place, type_place, on_place}
+use Rattle.fut_meaning.specs.Taken.{is_outer, on_size, outer_size, own_size}
 use Rattle.fut_meaning.specs.Telling.{nodes_from}
 use Rattle.fut_meaning.specs.Values.{is_before}
 use Rattle.fut_meaning.proofs.Safe.{Every}
 use Rattle.fut_blocks.specs.declared.block.Atom.{Atom}
 use Rattle.fut_blocks.specs.Rows.{Row, Unknown_row, Tuple_row, Record_row, Array_row, Shape_of, Size_tests, Named_tests, Rows, no_row, row_and, Named_rows, no_named_row, named_row_and, Extent, Nowhere, Exactly, Worth_of, Length_of, rows}
 use Rattle.fut_types.specs.Types.{Tys, none, more}
-use Rattle.unfold.specs.Knowns.{Known, Scalar_known, Tuple_known, Record_known, Function_known, Primitive_known, Knowns, no_known, known_and, Known_fields, no_known_field, known_field_and, Scope, entered_in, Entered, no_entry, entry}
-use Rattle.unfold.specs.Telling.{part_at, part_in, field_at, field_in, at_row, as_many, length_of, with_named, named_rows, headed, told_row, told_rows, pushed, typed_by, result_row, Found, nothing_found, number, with_data, chosen_none, chosen_row, if_told, results_row, with_results, named_worth, with_worth, Argument, Telling, Of_row, Of_rows, by_function, rows_in, argument_row, same_row, mapped_rows, first_row, last_row, element_row, zipped_row, unzipped_row, replicated, counted, tabulated, indices_row, unflattened, transposed, primitive_tells, known_worth, known_row, known_rows, field_rows, is_function, data_told, to_come, closure_tells, found, tells, function_tells, rows_for, head_test, size_test, size_tests, named_tests, literal_row, function_row, test_at, size_used, enter}
+use Rattle.unfold.specs.Knowns.{Known, Scalar_known, Tuple_known, Record_known, Function_known, Primitive_known, Knowns, no_known, known_and, Known_fields, no_known_field, known_field_and, Scope, seeing, entered_in, Entered, no_entry, entry}
+use Rattle.unfold.specs.Telling.{expression, passed, says, taken, told, part_at, part_in, field_at, field_in, at_row, as_many, length_of, with_named, named_rows, headed, told_row, told_rows, pushed, typed_by, result_row, Found, nothing_found, number, with_data, chosen_none, chosen_row, if_told, results_row, with_results, named_worth, with_worth, Argument, Telling, Of_row, Of_rows, by_function, rows_in, argument_row, same_row, mapped_rows, first_row, last_row, element_row, zipped_row, unzipped_row, replicated, counted, tabulated, indices_row, unflattened, transposed, primitive_tells, known_worth, known_row, known_rows, field_rows, is_function, data_told, to_come, closure_tells, found, tells, function_tells, rows_for, head_test, size_test, size_tests, named_tests, literal_row, function_row, test_at, size_used, enter}
 use Rattle.unfold_laws.specs.Entered.{All_in_known, All_in_knowns, All_in_known_fields, All_entered, All_entries}
 use Rattle.unfold_laws.proofs.Entered.{entries_in}
 use Rattle.unfold_laws.specs.Typed.{Types, Are, Stands}
@@ -366,6 +367,44 @@ module _ (P : Atom → Type 0) where
       function_all no_known rs h k = tt
       function_all (known_and s ss) rs h k = all_if Row_all (is_function s) (tells Z s rs) (function_tells Z ss rs) (tells_all s rs h.0 k) (function_all ss rs h.1 k)
 
+    -- ---- sizes as expressions
+    cond_all : (b : Bool) (e f : Extent) → Extent_all e → Extent_all f → Extent_all (cond b e f)
+    cond_all b e f h k = all_if Extent_all b e f h k
+
+    expression_by : (es : Entered) → Found_all (found Z es) → ((d : Free) → Extent_all (passed Z es d)) → (x : Dim) → Extent_all (expression Z es x)
+    expression_by es f h (At (Const c)) = tt
+    expression_by es f h (At (Name b)) = cond_all (told Z es (Name b)) ((found Z es).size (Name b)) (passed Z es (Name b)) (f.sizes (Name b)) (h (Name b))
+    expression_by es f h (At (Own n i)) = cond_all (told Z es (Own n i)) ((found Z es).size (Own n i)) (passed Z es (Own n i)) (f.sizes (Own n i)) (h (Own n i))
+    expression_by es f h (At (Unknown n i)) = cond_all (told Z es (Unknown n i)) ((found Z es).size (Unknown n i)) (passed Z es (Unknown n i)) (f.sizes (Unknown n i)) (h (Unknown n i))
+    expression_by es f h (At (Slot i)) = cond_all (told Z es (Slot i)) ((found Z es).size (Slot i)) (passed Z es (Slot i)) (f.sizes (Slot i)) (h (Slot i))
+    expression_by es f h (Bound j i) = tt
+
+    said_all : (outer : Dim → Bool) (there : Dim → Extent) (e : Extent) → ((x : Dim) → Extent_all (there x)) → Extent_all e → (o : Option Dim) → Extent_all (on_size (outer_size outer o) there e)
+    said_all outer there e h k None = k
+    said_all outer there e h k (Some x) = by (outer x)
+      where
+        by : (b : Bool) → Extent_all (on_size (cond b (Some x) None) there e)
+        by true = h x
+        by false = k
+
+    mutual
+      unfolding passed says
+
+      passed_all : (es : Entered) (d : Free) → All_entries P es → Extent_all (passed Z es d)
+      passed_all no_entry d h = tt
+      passed_all (entry q s r es) d h = says_all s (Z.size_at q) (At d) (passed Z es d) h.0 (passed_all es d h.2)
+
+      says_all : (s : Known) (t : Size) (x : Dim) (e : Extent) → All_in_known P s → Extent_all e → Extent_all (says Z s t x e)
+      says_all (Scalar_known u) t x e h k = k
+      says_all (Tuple_known ss) t x e h k = k
+      says_all (Record_known fs) t x e h k = k
+      says_all (Function_known ps b lo (seeing names es)) t x e h k =
+          said_all (is_outer (told Z es) (taken Z es)) (expression Z es) e (expression_by es (found_all es h) (λ d. passed_all es d h)) k (own_size Z t (nodes_from ps (lo - all_pattern_numbers ps)) x)
+      says_all (Primitive_known p at ss) t x e h k = k
+
+    expression_all : (es : Entered) (x : Dim) → All_entries P es → Extent_all (expression Z es x)
+    expression_all es x h = expression_by es (found_all es h) (λ d. passed_all es d h) x
+
   atoms_rows : (us : List Atom) → Every P us → Every Row_all (map (λ u. rows_in (Shape_of u)) us)
   atoms_rows [] h = tt
   atoms_rows (u ∷ us) h = (rows_in_all (Shape_of u) h.0, atoms_rows us h.1)
@@ -418,7 +457,7 @@ module _ (P : Atom → Type 0) where
 
   pub size_used_all : (z : Option Sizing) (sc : Scope) (k : ℕ) → All_entered P sc → On_some (All_in_extent P) (size_used z sc k)
   size_used_all None sc k h = tt
-  size_used_all (Some Z) sc k h = all_if (On_some (All_in_extent P)) (Z.is_size k) (Some (number (found Z (entered_in sc)) (At (Name k)))) None (number_all (found Z (entered_in sc)) (found_all Z (entered_in sc) (entries_in P sc h)) (At (Name k))) tt
+  size_used_all (Some Z) sc k h = all_if (On_some (All_in_extent P)) (Z.is_size k) (Some (expression Z (entered_in sc) (At (Name k)))) None (expression_all Z (entered_in sc) (At (Name k)) (entries_in P sc h)) tt
 
   pub enter_all : (z : Option Sizing) (q : ℕ) (s : Known) (sc : Scope) → All_in_known P s → All_entered P sc → All_entered P (enter z q s sc)
   enter_all None q s sc h k = k
