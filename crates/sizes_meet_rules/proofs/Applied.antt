@@ -10,7 +10,7 @@ use Rattle.fut_types.specs.Types.{Ty, fun_ty, Sub, Kinds, HasKind, rank, level}
 use Rattle.fut_typing.specs.Names.{Names}
 use Rattle.sized_types.specs.Sizes.{Free, Const, Name, Own, Unknown, Slot, Dim, At, Bound, Variable, Size, Hole, Open, Level, Built, Fun, Sizes, no_size, size_and, erased, renamed}
 use Rattle.fut_sizes.specs.Applications.{Later, Argument, Part, Applied, is_arrow, uses}
-use Rattle.fut_sizes.specs.Functions.{is_slot, unknown_slot}
+use Rattle.fut_sizes.specs.Functions.{is_slot, unknown_slot, closed}
 use Rattle.fut_sizes.specs.Matching.{Found, nothing_found, found_size, found_dim, read, all_read, Opened, none_opened, dim_in, in_opened}
 use Rattle.fut_sizes.specs.Rules.{Each_hole, Sized}
 use Rattle.fut_sizes.specs.Scopes.{Scope}
@@ -19,11 +19,13 @@ use Rattle.fut_sizes.specs.Sizing.{finished}
 use Rattle.fut_sizes.specs.Steps.{State, Done, at_node}
 use Rattle.fut_sizes.specs.Suiting.{Each, Data}
 use Rattle.sizes_meet_rules.specs.Known.{Says, Judged, Elsewhere}
-use Rattle.sizes_meet_rules.proofs.Applying.{no_arrow, read_twice}
-use Rattle.sizes_meet_rules.proofs.Chains.{Given, arguments, Takes_all, widened, widened_widths, here, opened_by, after, wants, laters, last_opened, last_size, last_goes, last_found, Matched_ran, last_slots, arrows_of, argument_by, All_plain, Reads, Kept, met_all}
-use Rattle.sizes_meet_rules.proofs.Frames.{Okay, none_meant, by_itself, Frames, not_filled, Framed}
+use Rattle.sizes_meet_rules.specs.Plain.{Flat_function, Is_call}
+use Rattle.sizes_meet_rules.proofs.Applying.{read_twice}
+use Rattle.sizes_meet_rules.proofs.Chains.{Gives, Given, arguments, Takes_all, widened, widened_widths, here, opened_by, after, wants, laters, last_opened, last_size, last_goes, last_found, Matched_ran, last_slots, arrows_of, argument_by, All_plain, Reads, Kept, met_all}
+use Rattle.sizes_meet_rules.proofs.Fitting.{Gives_type, function_gives}
+use Rattle.sizes_meet_rules.proofs.Frames.{Okay, none_meant, by_itself, Frames, not_filled, Framed, Settled_parameters, quantified_as}
 use Rattle.sizes_meet_rules.proofs.Meeting.{at_itself, at_another, With_met, met_settled}
-use Rattle.sizes_meet_rules.proofs.Noting.{within_avoids, Placed, placed_order, Avoids, Within, Right, noting, noting_other, noting_right, right_as, right_first, right_later, both_closed, both_avoid, both_within, both_distinct, laters_avoid, laters_within, laters_distinct, laters_closed, uses_avoid, uses_within, uses_distinct, uses_closed, met_noted_is, ended, Stages, Unnamed, stages}
+use Rattle.sizes_meet_rules.proofs.Noting.{gives_settled, within_avoids, Placed, placed_order, Avoids, Within, Right, noting, noting_other, noting_right, right_as, right_first, right_later, both_closed, both_avoid, both_within, both_distinct, laters_avoid, laters_within, laters_distinct, laters_closed, uses_avoid, uses_within, uses_distinct, uses_closed, met_noted_is, ended, Stages, Unnamed, stages}
 use Rattle.sizes_meet_rules.proofs.Reading.{found_settled}
 use Rattle.sizes_meet_rules.proofs.Replacing.{hole_as}
 use Rattle.sizes_meet_rules.proofs.Settling.{Any_variable}
@@ -34,7 +36,7 @@ use Rattle.fut_sizes.specs.Applications.{Want, Met}
 use Rattle.fut_sizes.specs.Steps.{Step}
 use Rattle.sizes_meet_rules.proofs.Meeting.{Meets}
 use Rattle.sizes_meet_rules.proofs.Heads.{Head, Primitive_head, Resolved, resolved, primitive_lambda}
-use Rattle.sizes_meet_rules.proofs.Parts.{spine, all_some, Data_meets, Lambda_waits, All_given, One_waits, All_parts, below, none_dropped, not_in_outside, Later_part, all_plain, all_fit, Last_says, last_says, Inner_nodes, nodes_of, stage_here, rules_all}
+use Rattle.sizes_meet_rules.proofs.Parts.{spine, all_some, Data_meets, Function_meets, Lambda_waits, All_given, One_waits, All_parts, below, none_dropped, not_in_outside, Later_part, all_plain, all_fit, Last_says, last_says, Inner_nodes, nodes_of, stage_here, rules_all}
 use Rattle.sizes_meet_rules.proofs.Later.{sized_by, state_by, Went_by, sized_arguments, sized_arrows, sized_spine, sized_placed, sized_widths, data_parts, one_parts, none_later, one_later, one_given}
 use Rattle.sizes_meet_rules.proofs.Spines.{Spine, Spine_law}
 
@@ -113,6 +115,9 @@ module _ (N : Names) (types : Sub) (home : ℕ → ℕ) (K : Kinds) (places : Ki
     wide_data : (g : Given) (m : ℕ) (st mid : State) → Data_meets N types home K places data_places In Vars scope g st mid → Data_meets N types home K places data_places In Vars scope (record { node = g.node; value = g.value; named = g.named; size = g.size; term = g.term; width = m; waits = g.waits }) st mid
     wide_data g m st mid h = (record { value_is = h.0.value_is; inner = h.0.inner; noted = h.0.noted; value_known = h.0.value_known }, h.1)
 
+    wide_function : (g : Given) (m : ℕ) (st mid : State) → Function_meets N types home K places data_places In Vars scope g st mid → Function_meets N types home K places data_places In Vars scope (record { node = g.node; value = g.value; named = g.named; size = g.size; term = g.term; width = m; waits = g.waits }) st mid
+    wide_function g m st mid h = (record { value_is = h.0.value_is; inner = h.0.inner; noted = h.0.noted; value_known = h.0.value_known }, h.1)
+
     wide_given : (gs : List Given) (t : Size) (st A : State) → All_given N types home K places data_places In Vars scope gs st A → All_given N types home K places data_places In Vars scope (widened gs t) st A
     wide_given [] t st A h = h
     wide_given (g ∷ gs) (Fun k p r) st A h = (h.0, (wide_data g (levels_within r) st h.0 h.1.0, wide_given gs r h.0 A h.1.1))
@@ -122,12 +127,13 @@ module _ (N : Names) (types : Sub) (home : ℕ → ℕ) (K : Kinds) (places : Ki
     wide_given (g ∷ gs) (Built f ts) st A h = h
 
     wide_lambda : (g : Given) (m : ℕ) → Lambda_waits N types home K places data_places In Vars scope g → Lambda_waits N types home K places data_places In Vars scope (record { node = g.node; value = g.value; named = g.named; size = g.size; term = g.term; width = m; waits = g.waits })
-    wide_lambda g m h = record { st = h.st; part = h.part; waits = h.waits; waits_is = h.waits_is; value = h.value; named = h.named; plain = h.plain }
+    wide_lambda g m h = record { st = h.st; part = h.part; waits = h.waits; waits_is = h.waits_is; value = h.value; named = h.named; flat = h.flat }
 
     wide_waits : (gs : List Given) (t : Size) (st A : State) → One_waits N types home K places data_places In Vars scope gs st A → One_waits N types home K places data_places In Vars scope (widened gs t) st A
     wide_waits [] t st A h = absurd h
     wide_waits (g ∷ gs) (Fun k p r) st A (inl h) = inl (h.0, (wide_data g (levels_within r) st h.0 h.1.0, wide_waits gs r h.0 A h.1.1))
-    wide_waits (g ∷ gs) (Fun k p r) st A (inr h) = inr (wide_lambda g (levels_within r) h.0, wide_given gs r st A h.1)
+    wide_waits (g ∷ gs) (Fun k p r) st A (inr (inl h)) = inr (inl (wide_lambda g (levels_within r) h.0, wide_given gs r st A h.1))
+    wide_waits (g ∷ gs) (Fun k p r) st A (inr (inr h)) = inr (inr (h.0, (wide_function g (levels_within r) st h.0 h.1.0, wide_given gs r h.0 A h.1.1)))
     wide_waits (g ∷ gs) (Hole v) st A h = h
     wide_waits (g ∷ gs) (Open m v u) st A h = h
     wide_waits (g ∷ gs) (Level d t) st A h = h
@@ -139,22 +145,28 @@ module _ (N : Names) (types : Sub) (home : ℕ → ℕ) (K : Kinds) (places : Ki
   Nonempty [] = ⊥
   Nonempty (g ∷ gs) = Unit {0}
 
-  no_arrow_left : (lo : ℕ) (gs : List Given) (b : Bool) (t : Size) → Nonempty gs → Takes_all gs t → last_goes lo gs b t ≡ false
-  no_arrow_left lo [] b t n h = absurd n
-  no_arrow_left lo (g ∷ []) b (Fun k p r) n h = no_arrow r h.1
-  no_arrow_left lo (g ∷ x ∷ gs) b (Fun k p r) n h = no_arrow_left lo (x ∷ gs) (is_arrow r) r tt h.1
-  no_arrow_left lo (g ∷ gs) b (Hole v) n h = absurd h
-  no_arrow_left lo (g ∷ gs) b (Open m v u) n h = absurd h
-  no_arrow_left lo (g ∷ gs) b (Level d t) n h = absurd h
-  no_arrow_left lo (g ∷ gs) b (Built f ts) n h = absurd h
+  last_gives : (lo : ℕ) (gs : List Given) (t : Size) → Takes_all gs t → Gives (last_size lo gs t)
+  last_gives lo [] t h = h
+  last_gives lo (g ∷ gs) (Fun k p r) h = last_gives lo gs r h.1
+  last_gives lo (g ∷ gs) (Hole v) h = absurd h
+  last_gives lo (g ∷ gs) (Open m v u) h = absurd h
+  last_gives lo (g ∷ gs) (Level d t) h = absurd h
+  last_gives lo (g ∷ gs) (Built f ts) h = absurd h
 
-  last_data : (lo : ℕ) (gs : List Given) (t : Size) → Takes_all gs t → Data (last_size lo gs t)
-  last_data lo [] t h = h
-  last_data lo (g ∷ gs) (Fun k p r) h = last_data lo gs r h.1
-  last_data lo (g ∷ gs) (Hole v) h = absurd h
-  last_data lo (g ∷ gs) (Open m v u) h = absurd h
-  last_data lo (g ∷ gs) (Level d t) h = absurd h
-  last_data lo (g ∷ gs) (Built f ts) h = absurd h
+  last_closed : (lo : ℕ) (gs : List Given) (t : Size) → Each_hole Any_variable t → Each_hole Any_variable (last_size lo gs t)
+  unfolding Each_hole
+  last_closed lo [] t h = h
+  last_closed lo (g ∷ gs) (Fun k p r) h = last_closed lo gs r h.1
+  last_closed lo (g ∷ gs) (Hole v) h = h
+  last_closed lo (g ∷ gs) (Open m v u) h = h
+  last_closed lo (g ∷ gs) (Level d t) h = h
+  last_closed lo (g ∷ gs) (Built f ts) h = h
+
+  -- nothing is chosen again
+  ends_alike : (b : Bool) (maker : ℕ → ℕ) (t : Size) → Settled_parameters 0 t → closed b maker t ≡ renamed (unknown_slot maker) t
+  unfolding closed
+  ends_alike true maker t h = quantified_as maker t h
+  ends_alike false maker t h = refl
 
   module _ (In : Free → Type 0) (Vars : Variable → Type 0) (scope : Scope) (f : FlatTerm) (lo : ℕ) (E : Elsewhere N types home lo (lo + numbers f) In) (term : FlatTerm) (term_some : 1 ≤ numbers term) (gs : List Given) (is : f ≡ spine term gs) (placed : Placed gs (lo + length (arguments gs) + numbers term) (lo + numbers f)) (some : Nonempty gs) (u : Done Size)
       (t : Size) (says : Says (With_met In (lo + length (arguments gs) + numbers term) (lo + numbers f)) Vars t) (size_typed : erased t ≡ arrows_of types gs (types lo)) (takes : Takes_all gs t) (M : Matched_ran lo N types gs t u) (rule : (m : ℕ) (s : ℕ → Size) (G : Context) → Judged In Vars scope G → s m ≡ t → Sized N types s home term m G)
@@ -228,7 +240,10 @@ module _ (N : Names) (types : Sub) (home : ℕ → ℕ) (K : Kinds) (places : Ki
     read_size = read τ (in_opened (last_opened lo gs none_opened t nothing_found) (last_size lo gs t))
 
     read_again : (read τ read_size ≡ read_size) × Each_hole Any_variable read_size
-    read_again = read_twice τ (dim_in (last_opened lo gs none_opened t nothing_found)) twice (last_size lo gs t) (last_data lo gs t takes)
+    read_again = read_twice τ (dim_in (last_opened lo gs none_opened t nothing_found)) twice (last_size lo gs t) 0 (last_closed lo gs t any_holes)
+
+    none_again : closed (last_goes lo gs true t) τ.maker (read τ read_size) ≡ renamed (unknown_slot τ.maker) (read τ read_size)
+    none_again = ends_alike (last_goes lo gs true t) τ.maker (read τ read_size) (subst (Settled_parameters 0) (sym read_again.0) (gives_settled τ (dim_in (last_opened lo gs none_opened t nothing_found)) (last_size lo gs t) 0 0 (last_gives lo gs t takes)))
 
     abbrev all_laters : List Later
     all_laters = laters lo gs none_opened t nothing_found ++ uses (wants lo gs none_opened t nothing_found)
@@ -237,7 +252,7 @@ module _ (N : Names) (types : Sub) (home : ℕ → ℕ) (K : Kinds) (places : Ki
     made = renamed (unknown_slot τ.maker) (read τ read_size)
 
     now : u ≡ record { result = made; state = record { nodes = at_node lo made (noting N types τ all_laters B.nodes); dropped = B.dropped } }
-    now = met_noted_is N types τ lo read_size all_laters (last_goes lo gs true t) B u (no_arrow_left lo gs true t some takes) read_again.1
+    now = met_noted_is N types τ lo read_size all_laters (last_goes lo gs true t) B u none_again read_again.1
         (both_closed N types τ (laters lo gs none_opened t nothing_found) (uses (wants lo gs none_opened t nothing_found)) (laters_closed N types τ lo gs none_opened t nothing_found any_holes) (uses_closed N types τ lo gs none_opened t nothing_found any_holes)) M.noted
 
     node_here : u.state.nodes lo ≡ made
@@ -326,11 +341,26 @@ module _ (N : Names) (types : Sub) (home : ℕ → ℕ) (K : Kinds) (places : Ki
     sized_some : (gs : List Given) (st A : State) (h : One_waits N types home K places data_places In Vars scope gs st A) → Nonempty gs → Nonempty (sized_by N types home K places data_places In Vars scope gs st A h)
     sized_some [] st A h s = absurd s
     sized_some (g ∷ gs) st A (inl h) s = tt
-    sized_some (g ∷ gs) st A (inr h) s = tt
+    sized_some (g ∷ gs) st A (inr (inl h)) s = tt
+    sized_some (g ∷ gs) st A (inr (inr h)) s = tt
 
-    module _ (f : FlatTerm) (lo : ℕ) (st : State) (d : Done Part) (S : Spine N types home K places data_places false In Vars scope f lo st d) (E : Elsewhere N types home lo (lo + numbers f) In) (kind : HasKind K places (types lo)) (some : Nonempty S.given) (u : Done Size) (q : finished N types lo d.result d.state ≡ Ok u) where
+    module _ (f : FlatTerm) (lo : ℕ) (st : State) (d : Done Part) (S : Spine N types home K places data_places false In Vars scope f lo st d) (E : Elsewhere N types home lo (lo + numbers f) In) (kind : HasKind K places (types lo) ⊎ (Flat_function types home K places (types lo) × (Primitive_head N types home K In Vars scope S.term S.size S.regular S.type → ⊥))) (some : Nonempty S.given) (u : Done Size) (q : finished N types lo d.result d.state ≡ Ok u) where
       abbrev wide : List Given
       wide = widened S.given S.size
+
+      gives_kind : Gives_type K (types lo)
+      gives_kind = by_kind kind
+        where
+          by_kind : HasKind K places (types lo) ⊎ (Flat_function types home K places (types lo) × (Primitive_head N types home K In Vars scope S.term S.size S.regular S.type → ⊥)) → Gives_type K (types lo)
+          by_kind (inl k) = function_gives types home K places data_places (types lo) (inl k)
+          by_kind (inr k) = function_gives types home K places data_places (types lo) (inr k.0)
+
+      data_kind : Primitive_head N types home K In Vars scope S.term S.size S.regular S.type → 1 ≤ rank K (types lo)
+      data_kind H = by_kind kind
+        where
+          by_kind : HasKind K places (types lo) ⊎ (Flat_function types home K places (types lo) × (Primitive_head N types home K In Vars scope S.term S.size S.regular S.type → ⊥)) → 1 ≤ rank K (types lo)
+          by_kind (inl k) = omega (arith, data_places, k)
+          by_kind (inr k) = absurd (k.1 H)
 
       abbrev end_here : ℕ
       end_here = lo + numbers f
@@ -369,9 +399,6 @@ module _ (N : Names) (types : Sub) (home : ℕ → ℕ) (K : Kinds) (places : Ki
         ran_there : finished N types lo (Applied S.size S.regular (arguments gs)) d.state ≡ Ok u
         ran_there = ap (λ xs. finished N types lo (Applied S.size S.regular xs) d.state) (same_arguments ∙ wide_arguments S.given S.size) ∙ ap (λ p. finished N types lo p d.state) (sym S.part) ∙ q
 
-        data_kind : 1 ≤ rank K (types lo)
-        data_kind = omega (arith, data_places, kind)
-
         abbrev Resolved_there : (State → Type 0) → Type 0
         Resolved_there Ends = Resolved N types home K In Vars scope S.term S.size S.regular S.type Known_here (λ x i. inl i) settled_here lo gs d.state u Ends
 
@@ -389,7 +416,8 @@ module _ (N : Names) (types : Sub) (home : ℕ → ℕ) (K : Kinds) (places : Ki
 
           R : Resolved N types home K In Vars scope S.term S.size S.regular S.type (With_met In (lo + length (arguments wide) + numbers S.term) end_here) (λ x i. inl i) (settled_here wide refl (λ x. refl) refl (λ p. p) (wide_some S.given S.size some)) lo wide d.state u (λ s. s ≡ d.state)
           R = resolved N types home K In Vars scope S.term S.size S.regular S.type (With_met In (lo + length (arguments wide) + numbers S.term) end_here) (λ x i. inl i) (settled_here wide refl (λ x. refl) refl (λ p. p) (wide_some S.given S.size some)) lo wide d.state u (types lo)
-              (omega (arith, data_places, kind)) (arrows_there wide refl (λ x. refl) refl (λ p. p) (wide_some S.given S.size some)) (widened_widths S.given S.size) (ran_there wide refl (λ x. refl) refl (λ p. p) (wide_some S.given S.size some))
+              (arrows_there wide refl (λ x. refl) refl (λ p. p) (wide_some S.given S.size some)) (widened_widths S.given S.size) (ran_there wide refl (λ x. refl) refl (λ p. p) (wide_some S.given S.size some))
+              gives_kind data_kind
               (all_fit N types home K places data_places In Vars scope lo (lo + length (arguments wide) + numbers S.term) end_here E (omega arith) wide st d.state (lo + length (arguments wide) + numbers S.term) (omega arith) (placed_there wide refl (λ x. refl) refl (λ p. p) (wide_some S.given S.size some)) wide_h) S.head
 
       -- and a lambda
@@ -434,7 +462,7 @@ module _ (N : Names) (types : Sub) (home : ℕ → ℕ) (K : Kinds) (places : Ki
 
           R : Resolved N types home K In Vars scope S.term S.size S.regular S.type (With_met In first_there end_here) (λ x i. inl i) (settled_here gs same_arguments same_arrows same_spine same_placed some_there) lo gs d.state u (λ s. Went × (s ≡ behind))
           R = primitive_lambda N types home K In Vars scope S.term S.size S.regular S.type (With_met In first_there end_here) (λ x i. inl i) (settled_here gs same_arguments same_arrows same_spine same_placed some_there) lo gs d.state u (types lo)
-              (omega (arith, data_places, kind)) (arrows_there gs same_arguments same_arrows same_spine same_placed some_there) (sized_widths N types home K places data_places In Vars scope wide st d.state wide_h S.size (widened_widths S.given S.size)) (ran_there gs same_arguments same_arrows same_spine same_placed some_there) H
+              (arrows_there gs same_arguments same_arrows same_spine same_placed some_there) (sized_widths N types home K places data_places In Vars scope wide st d.state wide_h S.size (widened_widths S.given S.size)) (ran_there gs same_arguments same_arrows same_spine same_placed some_there) H (data_kind H)
               Went behind (one_given N types home K places data_places In Vars scope lo first_there end_here E (omega arith) Went wide st d.state first_there (omega arith) placed_here wide_h (λ w. w))
 
       any_meets : Meets N types home In Vars scope f lo end_here st u.result u.state
@@ -451,7 +479,7 @@ module _ (N : Names) (types : Sub) (home : ℕ → ℕ) (K : Kinds) (places : Ki
     argument = F.argument;
     others = F.others;
     is_applied = S.part ∙ ap (Applied S.size S.regular) F.is;
-    by_itself = λ u z. any_meets In Vars scope (Apply f e) lo st d S E pl.0 F.some u z;
+    by_itself = λ u z. any_meets In Vars scope (Apply f e) lo st d S E (kind pl.0) F.some u z;
   }))
     where
       S : Spine N types home K places data_places false In Vars scope (Apply f e) lo st d
@@ -463,3 +491,12 @@ module _ (N : Names) (types : Sub) (home : ℕ → ℕ) (K : Kinds) (places : Ki
 
       F : First S.given
       F = some_given f e S.term S.given (no_apply S.head) S.is
+
+      -- a name that is applied is no primitive
+      call_head : (h : FlatTerm) (gs : List Given) → Is_call (spine h gs) → Is_call h
+      call_head h [] c = c
+      call_head h (g ∷ gs) c = call_head (Apply h g.term) gs c
+
+      kind : HasKind K places (types lo) ⊎ (Flat_function types home K places (types lo) × Is_call f) → HasKind K places (types lo) ⊎ (Flat_function types home K places (types lo) × (Primitive_head N types home K In Vars scope S.term S.size S.regular S.type → ⊥))
+      kind (inl k) = inl k
+      kind (inr k) = inr (k.0, λ H. subst Is_call H.term_is (call_head S.term S.given (subst Is_call S.is k.1)))

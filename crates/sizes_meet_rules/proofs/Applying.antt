@@ -26,7 +26,7 @@ use Rattle.fut_sizes.specs.Sizing.{finished, as_argument}
 use Rattle.fut_sizes.specs.Steps.{State, Done, give, and_then, note}
 use Rattle.fut_sizes.specs.Suiting.{Each, Each_all, Scoped, Data, All_data}
 use Rattle.sizes_meet_rules.specs.Known.{Is_made, Formed, All_formed, Known_name, Known_names}
-use Rattle.sizes_meet_rules.proofs.Meeting.{then_ok, same_ok, refused_ok, at_itself, Inner, Part_meets, inner_of, noted_meets}
+use Rattle.sizes_meet_rules.proofs.Meeting.{then_ok, same_ok, refused_ok, at_itself, Inner, Part_meets, inner_of, noted_meets, Whole_meets, Is_applied}
 use Rattle.sizes_meet_rules.proofs.Reading.{put_settled, found_settled, slot_met, settled_met}
 use Rattle.sizes_meet_rules.proofs.Settling.{Is_settled, Any_variable, noted}
 
@@ -132,19 +132,22 @@ module _ (τ : Found) where
     mutual
       unfolding read all_read replaced all_replaced Data All_data Each_hole Each_holes
 
-      pub read_twice : (x : Size) → Data x → (read τ (read τ (replaced g 0 x)) ≡ read τ (replaced g 0 x)) × Each_hole Any_variable (read τ (replaced g 0 x))
-      read_twice (Hole v) d = (refl, tt)
-      read_twice (Open n v u) d = absurd d
-      read_twice (Level e x) d = let a = read_twice x d in (ap (λ w. Level w (read τ (read τ (replaced g 0 x)))) (dim_twice (g 0 e)) ∙ ap (Level (found_dim τ 0 (g 0 e))) a.0, a.1)
-      read_twice (Built h xs) d = let a = all_read_twice xs d in (ap (Built h) a.0, a.1)
-      read_twice (Fun k p r) d = absurd d
+      pub read_twice : (x : Size) (j : ℕ) → Each_hole Any_variable x → (read τ (read τ (replaced g j x)) ≡ read τ (replaced g j x)) × Each_hole Any_variable (read τ (replaced g j x))
+      read_twice (Hole v) j d = (refl, tt)
+      read_twice (Open n v u) j d = absurd d
+      read_twice (Level e x) j d = let a = read_twice x j d in (ap (λ w. Level w (read τ (read τ (replaced g j x)))) (dim_twice (g j e)) ∙ ap (Level (found_dim τ 0 (g j e))) a.0, a.1)
+      read_twice (Built h xs) j d = let a = all_read_twice xs j d in (ap (Built h) a.0, a.1)
+      read_twice (Fun k p r) j d =
+          let a = read_twice p (suc j) d.0 in
+          let b = read_twice r (suc j) d.1 in
+          (ap (λ w. Fun k w (read τ (read τ (replaced g (suc j) r)))) a.0 ∙ ap (Fun k (read τ (replaced g (suc j) p))) b.0, (a.1, b.1))
 
-      all_read_twice : (xs : Sizes) → All_data xs → (all_read τ (all_read τ (all_replaced g 0 xs)) ≡ all_read τ (all_replaced g 0 xs)) × Each_holes Any_variable (all_read τ (all_replaced g 0 xs))
-      all_read_twice no_size d = (refl, tt)
-      all_read_twice (size_and x xs) d =
-          let a = read_twice x d.0 in
-          let b = all_read_twice xs d.1 in
-          (ap (λ w. size_and w (all_read τ (all_read τ (all_replaced g 0 xs)))) a.0 ∙ ap (size_and (read τ (replaced g 0 x))) b.0, (a.1, b.1))
+      all_read_twice : (xs : Sizes) (j : ℕ) → Each_holes Any_variable xs → (all_read τ (all_read τ (all_replaced g j xs)) ≡ all_read τ (all_replaced g j xs)) × Each_holes Any_variable (all_read τ (all_replaced g j xs))
+      all_read_twice no_size j d = (refl, tt)
+      all_read_twice (size_and x xs) j d =
+          let a = read_twice x j d.0 in
+          let b = all_read_twice xs j d.1 in
+          (ap (λ w. size_and w (all_read τ (all_read τ (all_replaced g j xs)))) a.0 ∙ ap (size_and (read τ (replaced g j x))) b.0, (a.1, b.1))
 
 pub no_arrow : (x : Size) → Data x → is_arrow x ≡ false
 unfolding Data
@@ -231,8 +234,9 @@ module _ (N : Names) (types : Sub) (home : ℕ → ℕ) (K : Kinds) (places : Ki
       pub inner : Inner N types home In Vars scope e mid hi st size after
       pub here : named ≡ false → after.nodes mid ≡ size
 
-    pub argument_meets : (e : FlatTerm) (mid hi : ℕ) (st : State) (part : Part) (before : State) (a : Done Argument) → mid < hi → HasKind K places (types mid) → Part_meets N types home In Vars scope e mid hi st part before → as_argument N types mid e part before ≡ Ok a → Argument_meets e mid hi st a.result a.state
-    argument_meets e mid hi st part before a l h (inl W) q = by_use (is_use e) (ap (λ x. as_argument N types mid e x before) (sym W.is_whole) ∙ q)
+    -- what does not wait
+    pub early_meets : (e : FlatTerm) (mid hi : ℕ) (st : State) (part : Part) (before : State) (a : Done Argument) → mid < hi → Whole_meets N types home In Vars scope e mid hi st part before ⊎ Is_applied N types home In Vars scope e mid hi st part before → as_argument N types mid e part before ≡ Ok a → Argument_meets e mid hi st a.result a.state
+    early_meets e mid hi st part before a l (inl W) q = by_use (is_use e) (ap (λ x. as_argument N types mid e x before) (sym W.is_whole) ∙ q)
       where
         by_use : (b : Bool) → and_then (cond b (give W.size) (note mid W.size)) (λ u. give (Early mid (named_value e) b u)) before ≡ Ok a → Argument_meets e mid hi st a.result a.state
         by_use true z = subst (λ (d : Done Argument). Argument_meets e mid hi st d.result d.state) (same_ok now)
@@ -245,12 +249,16 @@ module _ (N : Names) (types : Sub) (home : ℕ → ℕ) (K : Kinds) (places : Ki
           where
             now : ◌≡◌ {A = Answer (Done Argument)} (Ok (record { result = Early mid (named_value e) false W.size; state = (noted mid W.size before).state })) (Ok a)
             now = z
-    argument_meets e mid hi st part before a l h (inr (inl W)) q = absurd (no_data_function W.of_function.0 W.of_function.1.0 mid W.of_function.1.1 h)
-    argument_meets e mid hi st part before a l h (inr (inr W)) q =
+    early_meets e mid hi st part before a l (inr W) q =
         let x1 = then_ok (finished N types mid (Applied W.function W.regular (W.argument ∷ W.others)) before) (ap (λ x. as_argument N types mid e x before) (sym W.is_applied) ∙ q) in
         let M = W.by_itself x1.first (ap (λ x. finished N types mid x before) W.is_applied ∙ x1.done) in
         subst (λ (d : Done Argument). Argument_meets e mid hi st d.result d.state) (same_ok x1.rest)
         (record { value = None; named = false; size = x1.first.result; is_early = refl; value_is = inl refl; inner = inner_of N types home In Vars scope e mid hi st x1.first.result x1.first.state M; here = λ x. M.here })
+
+    pub argument_meets : (e : FlatTerm) (mid hi : ℕ) (st : State) (part : Part) (before : State) (a : Done Argument) → mid < hi → HasKind K places (types mid) → Part_meets N types home In Vars scope e mid hi st part before → as_argument N types mid e part before ≡ Ok a → Argument_meets e mid hi st a.result a.state
+    argument_meets e mid hi st part before a l h (inl W) q = early_meets e mid hi st part before a l (inl W) q
+    argument_meets e mid hi st part before a l h (inr (inl W)) q = absurd (no_data_function W.of_function.0 W.of_function.1.0 mid W.of_function.1.1 h)
+    argument_meets e mid hi st part before a l h (inr (inr W)) q = early_meets e mid hi st part before a l (inr W) q
 
     -- of an argument that is a name
     abbrev pub Value_known : FlatTerm → Ty → Type 0

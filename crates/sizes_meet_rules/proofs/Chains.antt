@@ -1,6 +1,7 @@
 -- What the pass does where a function is applied to arguments of data: each has its parameter, and all are matched at the end.
+use Rattle.sizes_meet_rules.proofs.Flat_types.{flat}
 use Rattle.sizes_meet_rules.proofs.Forming.{is_i64_ty, number_typed}
-use Rattle.std.proofs.Common.{◌≡◌, ℕ, suc, ◌+◌, ◌<◌, ◌≤◌, List, [], ◌∷◌, ◌++◌, Bool, true, false, cond, nat_eq, Option, Some, None, Ok, refl, sym, ap, ◌∙◌, subst, arith, ◌⊎◌, inl, inr}
+use Rattle.std.proofs.Common.{◌≡◌, ℕ, zero, suc, ◌+◌, ◌<◌, ◌≤◌, List, [], ◌∷◌, ◌++◌, Bool, true, false, cond, nat_eq, Option, Some, None, Ok, refl, sym, ap, ◌∙◌, subst, arith, ◌⊎◌, inl, inr}
 use Rattle.std.specs.Prelude.{nat_lt, length}
 use Rattle.std.proofs.lemmas.Bool.{lt-ltb, le-ltb, ne_eqb}
 use Rattle.std.proofs.lemmas.List.{append-nil, append_assoc}
@@ -114,9 +115,15 @@ function_opened φ p t f = alone_replaced Is_settled (dim_in φ) (λ j x. refl) 
 pub function_read : (τ : Found) (φ : Opened) (p t : Size) → Function_taken p t → read τ (in_opened φ p) ≡ t
 function_read τ φ p t f = ap (read τ) (function_opened φ p t f) ∙ read_settled τ p 0 (alone_scoped Is_settled p 0 f.alone) f.closed ∙ f.same
 
--- a function of that many arguments, of these types, which gives data
+-- data, or a function whose parameters have no arrays
+abbrev pub Gives : Size → Type 0
+Gives (Fun zero p r) = (p ≡ flat (erased p)) × Gives r
+Gives (Fun (suc k) p r) = ⊥
+Gives t = Data t
+
+-- a function of that many arguments, of these types, which gives data or such a function
 abbrev pub Takes_all : List Given → Size → Type 0
-Takes_all [] t = Data t
+Takes_all [] t = Gives t
 Takes_all (g ∷ gs) (Fun k p r) = Taken_by p g.size × Takes_all gs r
 Takes_all (g ∷ gs) t = ⊥
 
@@ -208,7 +215,7 @@ module _ (In : Free → Type 0) (ok : ℕ → ℕ → Type 0) (k : ℕ) (p r : S
       by_number true z = each_as (Okay In ok) (Of_positions (Meant k g)) (meant_all z) r 1 e.1
       by_number false z = each_as (Of_positions (λ i. i ≡ k → ⊥)) (Of_positions (Meant k g)) meant_other r 1 (f.3 (number_typed p f.0 ∙ ap is_i64_ty same ∙ sym (number_typed g.size fg) ∙ z))
 
--- an argument of data, or a lambda that waits
+-- an argument whose sized type is known, or a lambda that waits
 pub record Waiting_given (g : Given) : Type 0 where
   pub waiting : Option Want → Found → Step Met
   pub waits : g.waits ≡ Some waiting
@@ -217,18 +224,18 @@ pub record Waiting_given (g : Given) : Type 0 where
   pub is_fun : is_function g.size ≡ true
 
 abbrev pub Kind_of : Given → Type 0
-Kind_of g = (Data g.size × (g.waits ≡ None)) ⊎ Waiting_given g
+Kind_of g = (g.waits ≡ None) ⊎ Waiting_given g
 
 abbrev pub All_kinds : List Given → Type 0
 All_kinds [] = Unit {0}
 All_kinds (g ∷ gs) = Kind_of g × All_kinds gs
 
 frame_same : (m next k : ℕ) (g : Given) → Kind_of g → applied_frame m next k (argument_by g.waits g) ≡ applied_frame m next k (early g)
-frame_same m next k g (inl d) = ap (λ o. applied_frame m next k (argument_by o g)) d.1
+frame_same m next k g (inl d) = ap (λ o. applied_frame m next k (argument_by o g)) d
 frame_same m next k g (inr W) = ap (λ o. applied_frame m next k (argument_by o g)) W.waits ∙ ap {B = ℕ → Dim} (λ (v : Option Free) (i : ℕ). cond (nat_lt i k) (At (Slot (next + i))) (cond (nat_eq i k) (value_or v (Unknown m (next + k))) (At (Unknown m (next + i))))) (sym W.value)
 
 use_same : (g : Given) (φ : Opened) (p : Size) (ls : List Later) → Kind_of g → with_use (argument_by g.waits g) φ p ls ≡ with_use (early g) φ p ls
-use_same g φ p ls (inl d) = ap (λ o. with_use (argument_by o g) φ p ls) d.1
+use_same g φ p ls (inl d) = ap (λ o. with_use (argument_by o g) φ p ls) d
 use_same g φ p ls (inr W) = ap (λ o. with_use (argument_by o g) φ p ls) W.waits ∙ ap (λ b. with_use (Early g.node g.value b g.size) φ p ls) (sym W.named)
 
 module _ (n : ℕ) where
@@ -307,7 +314,7 @@ module _ (n : ℕ) where
   one_data gs g ψ p (Late at f) σ = Ok σ
 
   one_same : (gs : List Given) (g : Given) (ψ : Opened) (p : Size) (σ : Found) → Kind_of g → one_data gs g ψ p (argument_by g.waits g) σ ≡ one_data gs g ψ p (early g) σ
-  one_same gs g ψ p σ (inl d) = ap (λ o. one_data gs g ψ p (argument_by o g) σ) d.1
+  one_same gs g ψ p σ (inl d) = ap (λ o. one_data gs g ψ p (argument_by o g) σ) d
   one_same gs g ψ p σ (inr W) = ap (λ o. one_data gs g ψ p (argument_by o g) σ) W.waits ∙ ap (λ b. cond b (Ok σ) (meet (here gs) data_way g.node ψ p none_opened g.size (made_at (here gs) σ))) (sym W.is_fun)
 
   data_step : (gs : List Given) (g : Given) (φ : Opened) (k : ℕ) (p r : Size) (σ before : Found) → data_met (wants (g ∷ gs) φ (Fun k p r) σ) before ≡ then_do (one_data gs g (opened_by gs g σ k φ) p (early g) before) (λ found. data_met (wants gs (opened_by gs g σ k φ) r (after gs g σ k)) found)
@@ -336,7 +343,7 @@ module _ (n : ℕ) where
 
   pub data_kinds : (gs : List Given) → All_data gs → All_kinds gs
   data_kinds [] d = tt
-  data_kinds (g ∷ gs) d = (inl d.0, data_kinds gs d.1)
+  data_kinds (g ∷ gs) d = (inl d.0.1, data_kinds gs d.1)
 
   abbrev pub one_function : Bool → List Given → Opened → Size → Argument → Found → Step Found
   one_function reg gs ψ p (Early at value named t) σ = cond (is_function t) (ask (meet (here gs) (function_way reg) at ψ p none_opened t (made_at (here gs) σ))) (give σ)

@@ -1,18 +1,25 @@
 -- Definitions in a row meet the rules: each is a function that says no sizes but constants and numbers that are defined before it, or
--- such a number.
-use Rattle.std.proofs.Common.{◌≡◌, ◌⊎◌, ℕ, ◌+◌, ◌<◌, ◌≤◌, List, [], ◌∷◌, Bool, true, false, cond, nat_eq, Ok, refl, sym, ap, ◌∙◌, subst, arith, inl, inr, eqb-true}
+-- such a number, or of other data without arrays.
+use Rattle.std.proofs.Common.{◌≡◌, ◌⊎◌, ℕ, ◌+◌, ◌<◌, ◌≤◌, List, [], ◌∷◌, Bool, true, false, ◌||◌, ◌&&◌, cond, nat_eq, Ok, refl, sym, ap, ◌∙◌, subst, arith, inl, inr, eqb-true}
+use Rattle.std.specs.Prelude.{nat_le}
+use Rattle.std.proofs.lemmas.Bool.{leb-true}
 use Rattle.fut_scalar.specs.declared.place.BindId.{BindId}
+use Rattle.fut_flat.specs.declared.prim.Ref.{Ref}
+use Rattle.fut_flat.specs.declared.prim.Ref.TheVariants as ref
 use Rattle.fut_flat.specs.Numbers.{numbers}
-use Rattle.fut_flat.specs.Terms.{Bound_pattern, Wild_pattern, Tuple_pattern, Record_pattern, Typed_pattern, Parameter}
-use Rattle.fut_flat.specs.Erased.{FlatTerm, FlatPattern}
+use Rattle.fut_flat.specs.Terms.{Bound_pattern, Wild_pattern, Tuple_pattern, Record_pattern, Typed_pattern, Parameter, Type_use, Tuple_type, Type_terms, no_arg, no_type, type_and, Declared, Truth, Strict}
+use Rattle.fut_flat.specs.Erased.{FlatTerm, FlatPattern, FlatType}
+use Rattle.fut_types.specs.declared.Head.TheVariants as head
 use Rattle.fut_types.specs.declared.Kind.{Kind}
-use Rattle.fut_types.specs.Types.{Ty, Sub, Kinds, level, fun_ty}
+use Rattle.fut_types.specs.Types.{Ty, Made, Tys, none, more, Sub, Kinds, level, fun_ty}
+use Rattle.fut_typing.specs.Free.{is_within, is_free}
 use Rattle.fut_typing.specs.Generalised.{own_types, Reused}
 use Rattle.fut_typing.specs.Names.{Names}
-use Rattle.fut_typing.specs.Primitives.{i64_ty}
+use Rattle.fut_typing.specs.Primitives.{bool_ty, i64_ty}
 use Rattle.fut_typing.specs.Patterns.{with_parameters}
 use Rattle.fut_typing.specs.Program.{Defined, definition_scheme, Definitions_typed}
-use Rattle.fut_typing.specs.Scopes.{Uses, Scope as TypeScope, with_uses}
+use Rattle.fut_typing.specs.Rules.{Rule}
+use Rattle.fut_typing.specs.Scopes.{Uses, Scope as TypeScope, with_uses, Denotes, All_denote}
 use Rattle.fut_typing.specs.Typing.{Typed}
 use Rattle.sized_types.specs.Sizes.{Free, Const, Name, Own, Unknown, Slot, Size, Fun, erased}
 use Rattle.fut_sizes.specs.Agreeing.{Answer, is_among}
@@ -28,8 +35,10 @@ use Rattle.fut_sizes.specs.Steps.{State, Done, ask}
 use Rattle.fut_sizes.specs.Suiting.{Each, Each_all, Scoped}
 use Rattle.sizes_meet_rules.specs.Claims.{Definitions_have_types}
 use Rattle.sizes_meet_rules.specs.Known.{is_i64_size, Formed, All_formed, Says, Known_names, Is_const, Judged, Elsewhere}
-use Rattle.sizes_meet_rules.specs.Plain.{Formed_type, Is_lambda, Are_sizes, Plain_headed, Plain_term, Function_definition, Number_definition, Plain_definitions}
+use Rattle.sizes_meet_rules.specs.Plain.{Flat_type, Written_flat, All_written_flat, One_type, Flat_definition, Formed_type, Is_lambda, Are_sizes, Plain_headed, Plain_term, Function_definition, Number_definition, Plain_definitions}
 use Rattle.sizes_meet_rules.proofs.Applying.{Function_size, function_is, number_size}
+use Rattle.sizes_meet_rules.proofs.Flat_types.{flat, flat_is, flat_each, flat_holes, flat_formed, flat_erased}
+use Rattle.sizes_meet_rules.proofs.Forming.{is_i64_ty, i64_ty_is, number_typed}
 use Rattle.sizes_meet_rules.proofs.Naming.{known_wider}
 use Rattle.sizes_meet_rules.proofs.Generalising.{with_function, known_general, judged_general, lambda_arrow}
 use Rattle.sizes_meet_rules.proofs.Meeting.{Then_ok, then_ok, asked, same_ok, at_itself, at_another, each_scoped, In_nodes, away_of, Meets, Waits, finished_meets, function_knows}
@@ -80,6 +89,41 @@ among_one c b e = by_name (nat_eq c b) refl e
     by_name : (k : Bool) → nat_eq c b ≡ k → cond k true false ≡ true → c ≡ b
     by_name true f e = eqb-true c b f
     by_name false f e = absurd (let z : false ≡ true = e in cc)
+
+-- ---- a value that has one type in all of its typings
+
+module _ (N : Names) (places : Kind) (K : Kinds) (a b : Sub) where
+  mutual
+    same_denoted : (e : FlatType) → Written_flat e → (T S : TypeScope) (t u : Ty) → Denotes N places K a e T t → Denotes N places K b e S u → t ≡ u
+    same_denoted (Type_use (ref.Scalar s) no_arg) w T S t u d c = d ∙ sym c
+    same_denoted (Tuple_type es) w T S t u d c = d.2 ∙ ap (Made head.Tuple) (all_same_denoted es w T S d.0 c.0 d.1 c.1) ∙ sym c.2
+    same_denoted e w T S t u d c = absurd w
+
+    all_same_denoted : (es : Type_terms Ref BindId) → All_written_flat es → (T S : TypeScope) (ts us : Tys) → All_denote N places K a es T ts → All_denote N places K b es S us → ts ≡ us
+    all_same_denoted no_type w T S none none d c = refl
+    all_same_denoted no_type w T S (more t ts) us d c = absurd d
+    all_same_denoted no_type w T S none (more u us) d c = absurd c
+    all_same_denoted (type_and e es) w T S none us d c = absurd d
+    all_same_denoted (type_and e es) w T S (more t ts) none d c = absurd c
+    all_same_denoted (type_and e es) w T S (more t ts) (more u us) d c = ap (λ x. more x ts) (same_denoted e w.0 T S t u d.0 c.0) ∙ ap (more u) (all_same_denoted es w.1 T S ts us d.1 c.1)
+
+  truth_typed : (c : Bool) (t u x : Ty) (ts : Tys) → Rule N places K (Truth c) t x ts → t ≡ bool_ty
+  truth_typed c t u x none r = r
+  truth_typed c t u x (more y ys) r = absurd r
+
+  one_typed : (v : FlatTerm) (n : ℕ) (T : TypeScope) → One_type v n → Typed N places v n T K a → Typed N places v n T K b → (is_free false v n n ≡ false → b n ≡ a n) → b n ≡ a n
+  one_typed (Strict (Declared e) mark ts) n T o ta tb k = sym (same_denoted e o T T (a n) (b n) ta.2 tb.2)
+  one_typed (Strict (Truth c) mark ts) n T o ta tb k = truth_typed c (b n) (b n) (b n) _ tb.1 ∙ sym (truth_typed c (a n) (a n) (a n) _ ta.1)
+  one_typed v n T o ta tb k = k o
+
+-- the value's node is none of the name's
+behind_name : (lo : ℕ) → is_within lo 1 (lo + 1) ≡ false
+behind_name lo = by_later (nat_le (1 + (lo + 1)) (lo + 1)) refl (nat_le lo (lo + 1))
+  where
+    by_later : (c : Bool) → nat_le (1 + (lo + 1)) (lo + 1) ≡ c → (d : Bool) → d && c ≡ false
+    by_later true e d = absurd (let z = leb-true (1 + (lo + 1)) (lo + 1) e in omega (arith, z))
+    by_later false e true = refl
+    by_later false e false = refl
 
 module _ (N : Names) (types : Sub) (home : ℕ → ℕ) (K : Kinds) (places : Kind) (data_places : 1 ≤ level places) where
   abbrev pub Known_here : (Free → Type 0) → Scope → TypeScope → Type 0
@@ -256,7 +300,7 @@ module _ (N : Names) (types : Sub) (home : ℕ → ℕ) (K : Kinds) (places : Ki
     number_behind : (uses : Uses) → Behind Numbers [] x v lo scope T st w R before plain t1 i64_size number_there number_there_is (i64_says (Known_before Numbers)) Later uses
     number_behind uses = record {
       before_next = record { no_slot = no_slot; outside = outside };
-      known = known_general N types K places (Known_before Later) None_there home x i64_size scope T uses (i64_says (Known_before Later)) (i64_says (Known_before Later)).variables (number_there.typed ∙ sym t1 ∙ ap types (sym plain)) (λ u a. inr (ap types plain ∙ i64)) (λ z. inr (inr refl)) known_later;
+      known = known_general N types K places (Known_before Later) None_there home x i64_size scope T uses (i64_says (Known_before Later)) (i64_says (Known_before Later)).variables (number_there.typed ∙ sym t1 ∙ ap types (sym plain)) (λ u a. inr (inl (ap types plain ∙ i64))) (λ z. inr (inr refl)) known_later;
       judged = λ s G here J. judged_general N types K places (Known_before Later) None_there home x i64_size scope s lo here (hole_as None_there Any_variable (λ a i. tt) i64_size (i64_says (Known_before Later)).variables) (λ a. true) G J.sizes J.schemes J.none_open (λ d i. finds G J d i) J.finds_types;
     }
       where
@@ -287,6 +331,45 @@ module _ (N : Names) (types : Sub) (home : ℕ → ℕ) (K : Kinds) (places : Ki
             by_form (inl f) = inl (fresh, f)
             by_form (inr c) = inr (inr c)
 
+  -- ---- of other data without arrays
+
+  module _ (Numbers : Free → Type 0) (x : BindId) (v : FlatTerm) (lo : ℕ) (scope : Scope) (T : TypeScope) (st : State) (w : Done Scope) (R : Definition_ran [] x v lo scope st w) (before : Before N types home lo Numbers) (plain : home x.0 ≡ lo) (t1 : types lo ≡ types (lo + 1)) (no_arrays : Flat_type (types lo)) (other : types lo ≡ i64_ty → ⊥) (pv : Plain_term types home K places N v (lo + 1)) (tv : Typed N places v (lo + 1) T K types) (known : Known_here Numbers scope T) where
+    abbrev flat_there : Size
+    flat_there = flat (types lo)
+
+    flat_value : Meets N types home (Known_before Numbers) None_there scope v (lo + 1) (lo + 1 + numbers v) st R.value.result R.value.state
+    flat_value = alone N types home K places v (term_part N types home K places data_places v) (Known_before Numbers) None_there scope T (lo + 1) st R.part R.value pv tv known (known_elsewhere N types home lo Numbers before (lo + 1) (lo + 1 + numbers v) (omega arith)) R.part_is R.value_is
+
+    flat_value_is : R.value.result ≡ flat_there
+    flat_value_is = flat_is R.value.result flat_value.says.formed (subst Flat_type (t1 ∙ sym flat_value.typed) no_arrays) ∙ ap flat (flat_value.typed ∙ sym t1)
+
+    flat_meets : Meets N types home (Known_before Numbers) None_there scope v (lo + 1) (lo + 1 + numbers v) st flat_there R.value.state
+    flat_meets = subst (λ t. Meets N types home (Known_before Numbers) None_there scope v (lo + 1) (lo + 1 + numbers v) st t R.value.state) flat_value_is flat_value
+
+    flat_says : (In : Free → Type 0) → Says In None_there flat_there
+    flat_says In = record { sizes = flat_each (Scoped In) 0 (types lo); variables = flat_holes None_there (types lo) no_arrays; formed = flat_formed (types lo) no_arrays }
+
+    flat_no_number : is_i64_size flat_there ≡ true → ⊥
+    flat_no_number e = other (i64_ty_is (types lo) (ap is_i64_ty (sym (flat_erased (types lo))) ∙ sym (number_typed flat_there (flat_formed (types lo) no_arrays)) ∙ e))
+
+    flat_not_itself : (d : Free) → Numbers d → d ≡ Name x.0 → ⊥
+    flat_not_itself d i e = before.outside d i lo (lo + 1) (omega arith) (subst (In_nodes N types home lo (lo + 1)) (sym e) (omega (arith, plain), omega (arith, plain)))
+
+    flat_behind : (uses : Uses) → ((u : Ty) → uses K types u → u ≡ types lo) → Behind Numbers [] x v lo scope T st w R before plain t1 flat_there flat_meets flat_value_is (flat_says (Known_before Numbers)) Numbers uses
+    flat_behind uses same = record {
+      before_next = record { no_slot = before.no_slot; outside = λ d i from hi l o. before.outside d i from hi (omega (arith, l)) o };
+      known = known_general N types K places (Known_before Numbers) None_there home x flat_there scope T uses (flat_says (Known_before Numbers)) (flat_says (Known_before Numbers)).variables (flat_meets.typed ∙ sym t1 ∙ ap types (sym plain)) (λ u a. inr (inr (same u a ∙ ap types (sym plain)))) (λ z. absurd (flat_no_number z)) known;
+      judged = λ s G here J. judged_general N types K places (Known_before Numbers) None_there home x flat_there scope s lo here (hole_as None_there Any_variable (λ a i. tt) flat_there (flat_says (Known_before Numbers)).variables) (λ a. true) G J.sizes J.schemes J.none_open (λ d i. finds G J d i) J.finds_types;
+    }
+      where
+        finds : (G : Context) → Judged_here Numbers scope G → (d : Free) → Known_before Numbers d → ((d ≡ Name x.0 → ⊥) × (G.finds d ≡ true)) ⊎ (((d ≡ Name x.0) × (is_i64_size flat_there ≡ true)) ⊎ Is_const d)
+        finds G J d (inl i) = inr (inr i)
+        finds G J d (inr i) = by_form (J.finds d (inr i))
+          where
+            by_form : (G.finds d ≡ true) ⊎ Is_const d → ((d ≡ Name x.0 → ⊥) × (G.finds d ≡ true)) ⊎ (((d ≡ Name x.0) × (is_i64_size flat_there ≡ true)) ⊎ Is_const d)
+            by_form (inl f) = inl (flat_not_itself d i, f)
+            by_form (inr c) = inr (inr c)
+
   -- ---- definitions in a row
 
   no_definition : Row_law []
@@ -303,6 +386,27 @@ module _ (N : Names) (types : Sub) (home : ℕ → ℕ) (K : Kinds) (places : Ki
       row_meets Numbers [] x v lo scope T st x1.first R before plain t1 i64_size (number_there Numbers x v lo scope T st x1.first R before plain t1 f.0 f.1 tv known) (number_there_is Numbers x v lo scope T st x1.first R before plain t1 f.0 f.1 tv known) (i64_says Numbers x v lo scope T st x1.first R before plain t1 f.0 f.1 tv known (Known_before Numbers))
       (Later Numbers x v lo scope T st x1.first R before plain t1 f.0 f.1 tv known) uses (number_behind Numbers x v lo scope T st x1.first R before plain t1 f.0 f.1 tv known uses) ds rest t.1 pd z x1.rest
   of_number (p ∷ hd) x v ds rest Numbers lo scope T st z before plain f pd t known q = absurd f
+
+  of_flat : (hd : List (Parameter BindId)) (x : BindId) (v : FlatTerm) (ds : List Defined) → Row_law ds → (Numbers : Free → Type 0) (lo : ℕ) (scope : Scope) (T : TypeScope) (st : State) (z : Done Scope) → Before N types home lo Numbers → home x.0 ≡ lo → Flat_definition types home K places N hd v lo → Plain_definitions types home K places N ds (lo + (1 + numbers v))
+      → Definitions_typed N places (a_definition hd x v ∷ ds) lo T K types → Known_here Numbers scope T → definitions_sized N types (a_definition hd x v ∷ ds) lo scope st ≡ Ok z → Row_meets Numbers (a_definition hd x v ∷ ds) lo scope st z.state
+  of_flat [] x v ds rest Numbers lo scope T st z before plain f pd t known q =
+      let x1 = then_ok (definition_sized N types (a_definition [] x v) lo scope st) q in
+      let R = definition_ran [] x v lo scope st x1.first x1.done in
+      row_meets Numbers [] x v lo scope T st x1.first R before plain t1 (flat_there Numbers x v lo scope T st x1.first R before plain t1 f.0 f.1 f.3 tv known) (flat_meets Numbers x v lo scope T st x1.first R before plain t1 f.0 f.1 f.3 tv known) (flat_value_is Numbers x v lo scope T st x1.first R before plain t1 f.0 f.1 f.3 tv known) (flat_says Numbers x v lo scope T st x1.first R before plain t1 f.0 f.1 f.3 tv known (Known_before Numbers))
+      Numbers uses (flat_behind Numbers x v lo scope T st x1.first R before plain t1 f.0 f.1 f.3 tv known uses same) ds rest t.1 pd z x1.rest
+    where
+      tv : Typed N places v (lo + 1) T K types
+      tv = t.0.0.0.1
+
+      t1 : types lo ≡ types (lo + 1)
+      t1 = t.0.0.1
+
+      uses : Uses
+      uses = Reused places (definition_scheme N places (a_definition [] x v) lo T) lo
+
+      same : (u : Ty) → uses K types u → u ≡ types lo
+      same u a = a.2.1 ∙ a.2.0.typed.1 ∙ one_typed N places K types a.2.0.other v (lo + 1) T f.2 tv a.2.0.typed.0.1 (λ k. a.2.0.kept (lo + 1) (omega arith) (let n = numbers_some v in omega (arith, n)) (ap (λ c. c || is_free false v (lo + 1) (lo + 1)) (behind_name lo) ∙ k)) ∙ sym t1
+  of_flat (p ∷ hd) x v ds rest Numbers lo scope T st z before plain f pd t known q = absurd f
 
   one_definition : (hd : List (Parameter BindId)) (x : BindId) (v : FlatTerm) (ds : List Defined) → Row_law ds → Row_law (a_definition hd x v ∷ ds)
   one_definition hd x v ds rest Numbers lo scope T st z before p t known q = by_kind p.0.1
@@ -330,9 +434,10 @@ module _ (N : Names) (types : Sub) (home : ℕ → ℕ) (K : Kinds) (places : Ki
           arrow : (u : Ty) → uses K types u → (a : Ty) × (c : Ty) × (u ≡ fun_ty a c)
           arrow u a = let y = lambda_arrow N types home K places a.2.0.other v (lo + 1) (with_parameters hd a.0 T) f.0 a.2.0.typed.0.1 in (y.0, y.1, a.2.1 ∙ a.2.0.typed.1 ∙ y.2)
 
-      by_kind : Function_definition types home K places N hd v lo ⊎ Number_definition types home K places N hd v lo → Row_meets Numbers (a_definition hd x v ∷ ds) lo scope st z.state
+      by_kind : Function_definition types home K places N hd v lo ⊎ (Number_definition types home K places N hd v lo ⊎ Flat_definition types home K places N hd v lo) → Row_meets Numbers (a_definition hd x v ∷ ds) lo scope st z.state
       by_kind (inl f) = of_function f
-      by_kind (inr f) = of_number hd x v ds rest Numbers lo scope T st z before p.0.0 f p.1 t known q
+      by_kind (inr (inl f)) = of_number hd x v ds rest Numbers lo scope T st z before p.0.0 f p.1 t known q
+      by_kind (inr (inr f)) = of_flat hd x v ds rest Numbers lo scope T st z before p.0.0 f p.1 t known q
 
   any_definition : (p : FlatPattern) (ps : List (Parameter BindId)) (v : FlatTerm) (ds : List Defined) → Row_law ds → Row_law (record { name = p; parameters = ps; value = v } ∷ ds)
   any_definition (Bound_pattern x) ps v ds rest = one_definition ps x v ds rest

@@ -153,7 +153,7 @@ program_plain : Plain_definitions node_types homes K kind.Data N program 0
 unfolding Formed_type Formed_types rank least agree all_agree kept all_kept leaving type_levels all_type_levels of_type of_types all_settled parts_settled data_met functions_met all_matched applied collected all_collected sizes_in function_size chosen_in quantified closed filled all_filled read all_read opened_inside compared all_compared meet all_meet elements_agree slice_size indexed updated operation sized_type prim_size sizing type_of type_in instance instances used taken all_taken fields_taken bound_by erased all_erased is_free is_dim levels all_levels levels_within all_levels_within replaced all_replaced has some_has takes some_takes is_open some_open matched lacking all_lacking differing all_differing turns_from pattern_noted patterns_noted fields_noted sized all_sized turns_sized condition_sized right_sized inner_sized part_of changed_part has_sizes all_have_sizes fields_have_sizes with_sizes all_with_sizes fields_with_sizes ascribed coerced coercion parameter_size declared
 program_plain = (
   (refl, inl (tt, (tt, (tt, tt)), tt, (head_of_n, (none_chosen node_types homes K kind.Data N (Bound_pattern (b 2)) 3, tt)), (((tt, refl), tt, omega arith, (refl, tt, omega arith, tt)), (tt, (((scalar.Int int.I64, refl), tt), (inr refl, tt)))))),
-  ((refl, inl (tt, (tt, tt), tt, headed_none node_types homes K kind.Data N twice tt 8, ((refl, tt, omega arith, tt), (omega arith, (inl (omega arith, (inl (omega arith, (refl, refl)), (tt, (((scalar.Int int.I64, refl), tt), (inl refl, tt))))), inl refl))))), tt),
+  ((refl, inl (tt, (tt, tt), tt, headed_none node_types homes K kind.Data N twice tt 8, ((refl, tt, omega arith, tt), (inl (omega arith), (inl (omega arith, (inl (omega arith, (refl, refl)), (tt, (((scalar.Int int.I64, refl), tt), (inl refl, tt))))), inl refl))))), tt),
 )
 
 -- a caller that gives a gets an array of a numbers
@@ -204,7 +204,7 @@ counting_plain = (
           (tt, tt, refl, λ c e. k_at_home c e),
           refl,
           inl (omega arith),
-          (omega arith, (inl (omega arith, tt), (omega arith, (inl (omega arith, tt), inl refl)))),
+          (inl (omega arith), (inl (omega arith, tt), (inl (omega arith), (inl (omega arith, tt), inl refl)))),
           (tt, (((scalar.Int int.I64, refl), tt), (inr refl, tt))),
         ),
       ),
@@ -238,7 +238,7 @@ square_homes n = 1
 
 square_plain : Plain_term square_types square_homes K kind.Data N square 0
 unfolding Formed_type Formed_types rank least
-square_plain = ((refl, tt, omega arith, tt), (omega arith, (inl (omega arith, tt), (omega arith, (inl (omega arith, (inl (omega arith, tt), inl refl)), (omega arith, (inl (omega arith, tt), inl refl)))))))
+square_plain = ((refl, tt, omega arith, tt), (inl (omega arith), (inl (omega arith, tt), (inl (omega arith), (inl (omega arith, (inl (omega arith, tt), inl refl)), (inl (omega arith), (inl (omega arith, tt), inl refl)))))))
 
 abbrev square_part : Answer (Done Part)
 square_part = sized N square_types square [] 0 nothing no_state
@@ -269,7 +269,7 @@ map_plain : Plain_term map_types map_homes K kind.Data N mapping 0
 unfolding Formed_type Formed_types Flat_type Flat_types rank least
 map_plain = (
   (refl, tt, omega arith, tt),
-  (omega arith, (inl (omega arith, (inr (refl, (((tt, tt), tt), omega arith), tt), ((refl, tt, omega arith, tt), (omega arith, (inl (omega arith, tt), inl refl))))), (omega arith, (inl (omega arith, tt), inl refl)))),
+  (inl (omega arith), (inl (omega arith, (inr (refl, ((tt, tt), inl (omega arith)), tt), ((refl, tt, omega arith, tt), (inl (omega arith), (inl (omega arith, tt), inl refl))))), (inl (omega arith), (inl (omega arith, tt), inl refl)))),
 )
 
 abbrev map_part : Answer (Done Part)
@@ -303,7 +303,7 @@ number_homes n = cond (nat_eq n 0) 0 (cond (nat_eq n 1) 2 4)
 numbered_plain : Plain_definitions number_types number_homes K kind.Data N numbered 0
 unfolding Formed_type Formed_types rank least
 numbered_plain = (
-  (refl, inr (refl, ((scalar.Int int.I64, refl), tt))),
+  (refl, inr (inl (refl, ((scalar.Int int.I64, refl), tt)))),
   ((refl, inl (tt, (tt, tt), tt, headed_none number_types number_homes K kind.Data N to_n tt 3, ((refl, tt, omega arith, tt), (tt, (((scalar.Int int.I64, refl), tt), (inl refl, tt)))))), tt),
 )
 
@@ -314,3 +314,86 @@ its_numbered = refl
 
 numbered_rules : (nodes : ℕ → Size) → Program_typed N kind.Data numbered K number_types → sizing N number_types numbered ≡ Ok nodes → Program_sized N number_types nodes number_homes numbered
 numbered_rules nodes t e = (program_sizing_meets_rules N number_types number_homes K kind.Data numbered nodes (omega arith) numbered_plain t e).0
+
+-- ---- a name among the arguments of a primitive: `def f x = x` and `def main m = map f (iota m)`
+
+abbrev itself : FlatTerm
+itself = Lambda (pattern_and (Bound_pattern (b 2)) no_pattern) (named 2)
+
+abbrev map_itself : FlatTerm
+map_itself = Lambda (pattern_and (Bound_pattern (b 3)) no_pattern) (Apply (Apply (primitive prim.Map) (named 0)) (Apply (primitive prim.Iota) (named 3)))
+
+abbrev mapped : List Defined
+mapped = record { name = Bound_pattern (b 0); parameters = []; value = itself } ∷ record { name = Bound_pattern (b 1); parameters = []; value = map_itself } ∷ []
+
+-- 0 to 3 are those of f, 4 to 13 those of main
+abbrev mapped_types : Sub
+mapped_types n = cond (is_any (0 ∷ 1 ∷ 10 ∷ []) n) (fun_ty i64_ty i64_ty) (cond (is_any (4 ∷ 5 ∷ 12 ∷ []) n) (fun_ty i64_ty (array_ty i64_ty)) (cond (is_any (7 ∷ 11 ∷ []) n) (array_ty i64_ty) (cond (nat_eq n 8) (fun_ty (array_ty i64_ty) (array_ty i64_ty)) (cond (nat_eq n 9) (fun_ty (fun_ty i64_ty i64_ty) (fun_ty (array_ty i64_ty) (array_ty i64_ty))) i64_ty))))
+
+abbrev mapped_homes : ℕ → ℕ
+mapped_homes n = cond (nat_eq n 0) 0 (cond (nat_eq n 1) 4 (cond (nat_eq n 2) 2 6))
+
+mapped_plain : Plain_definitions mapped_types mapped_homes K kind.Data N mapped 0
+unfolding Formed_type Formed_types Flat_type Flat_types rank least
+mapped_plain = (
+  (refl, inl (tt, (tt, tt), tt, headed_none mapped_types mapped_homes K kind.Data N itself tt 1, ((refl, tt, omega arith, tt), inl refl))),
+  (
+    (refl, inl (tt, (tt, tt), tt, headed_none mapped_types mapped_homes K kind.Data N map_itself tt 5, ((refl, tt, omega arith, tt), (inl (omega arith), (inl (omega arith, (inr (refl, ((tt, tt), inl (omega arith)), tt), inl refl)), (inl (omega arith), (inl (omega arith, tt), inl refl))))))),
+    tt,
+  ),
+)
+
+-- main gives an array of as many numbers as its argument says
+its_mapped : then_do (sizing N mapped_types mapped) (λ s. Ok (s 4)) ≡ Ok (Fun 0 (scalar_size (scalar.Int int.I64)) (Level (Bound 0 0) (scalar_size (scalar.Int int.I64))))
+unfolding agree all_agree kept all_kept leaving type_levels all_type_levels of_type of_types all_settled parts_settled data_met functions_met all_matched applied collected all_collected sizes_in function_size chosen_in quantified closed filled all_filled read all_read opened_inside compared all_compared meet all_meet elements_agree slice_size indexed updated operation sized_type prim_size sizing type_of type_in instance instances used taken all_taken fields_taken bound_by erased all_erased is_free is_dim levels all_levels levels_within all_levels_within replaced all_replaced has some_has takes some_takes is_open some_open matched lacking all_lacking differing all_differing turns_from pattern_noted patterns_noted fields_noted sized all_sized turns_sized condition_sized right_sized inner_sized part_of changed_part has_sizes all_have_sizes fields_have_sizes with_sizes all_with_sizes fields_with_sizes ascribed coerced coercion parameter_size declared
+its_mapped = refl
+
+mapped_rules : (nodes : ℕ → Size) → Program_typed N kind.Data mapped K mapped_types → sizing N mapped_types mapped ≡ Ok nodes → Program_sized N mapped_types nodes mapped_homes mapped
+mapped_rules nodes t e = (program_sizing_meets_rules N mapped_types mapped_homes K kind.Data mapped nodes (omega arith) mapped_plain t e).0
+
+-- ---- and one that is applied to fewer arguments than it takes: `def first x y = x` and `def main m = map (first 1) (iota m)`
+
+abbrev first : FlatTerm
+first = Lambda (pattern_and (Bound_pattern (b 2)) (pattern_and (Bound_pattern (b 3)) no_pattern)) (named 2)
+
+abbrev map_first : FlatTerm
+map_first = Lambda (pattern_and (Bound_pattern (b 4)) no_pattern) (Apply (Apply (primitive prim.Map) (Apply (named 0) (Strict (Integer 1 None) here no_term))) (Apply (primitive prim.Iota) (named 4)))
+
+abbrev firsts : List Defined
+firsts = record { name = Bound_pattern (b 0); parameters = []; value = first } ∷ record { name = Bound_pattern (b 1); parameters = []; value = map_first } ∷ []
+
+-- 0 to 4 are those of `first`, 5 to 16 those of main
+abbrev first_types : Sub
+first_types n = cond (is_any (0 ∷ 1 ∷ 12 ∷ []) n) (fun_ty i64_ty (fun_ty i64_ty i64_ty)) (cond (is_any (5 ∷ 6 ∷ 15 ∷ []) n) (fun_ty i64_ty (array_ty i64_ty)) (cond (is_any (8 ∷ 14 ∷ []) n) (array_ty i64_ty) (cond (nat_eq n 9) (fun_ty (array_ty i64_ty) (array_ty i64_ty)) (cond (nat_eq n 10) (fun_ty (fun_ty i64_ty i64_ty) (fun_ty (array_ty i64_ty) (array_ty i64_ty))) (cond (nat_eq n 11) (fun_ty i64_ty i64_ty) i64_ty)))))
+
+abbrev first_homes : ℕ → ℕ
+first_homes n = cond (nat_eq n 0) 0 (cond (nat_eq n 1) 5 (cond (nat_eq n 2) 2 (cond (nat_eq n 3) 3 7)))
+
+firsts_plain : Plain_definitions first_types first_homes K kind.Data N firsts 0
+unfolding Formed_type Formed_types Flat_type Flat_types rank least
+firsts_plain = (
+  (refl, inl (tt, (tt, (tt, tt)), tt, headed_none first_types first_homes K kind.Data N first tt 1, ((refl, tt, omega arith, (refl, tt, omega arith, tt)), inl refl))),
+  (
+    (
+      refl,
+      inl (
+        tt,
+        (tt, tt),
+        tt,
+        headed_none first_types first_homes K kind.Data N map_first tt 6,
+        (
+          (refl, tt, omega arith, tt),
+          (inl (omega arith), (inl (omega arith, (inr (refl, ((tt, tt), inl (omega arith)), tt), (inr (((tt, tt), inl (omega arith)), tt), (inl (omega arith, (refl, refl)), ((scalar.Int int.I64, refl), tt))))), (inl (omega arith), (inl (omega arith, tt), inl refl)))),
+        ),
+      ),
+    ),
+    tt,
+  ),
+)
+
+its_firsts : then_do (sizing N first_types firsts) (λ s. Ok (s 5)) ≡ Ok (Fun 0 (scalar_size (scalar.Int int.I64)) (Level (Bound 0 0) (scalar_size (scalar.Int int.I64))))
+unfolding agree all_agree kept all_kept leaving type_levels all_type_levels of_type of_types all_settled parts_settled data_met functions_met all_matched applied collected all_collected sizes_in function_size chosen_in quantified closed filled all_filled read all_read opened_inside compared all_compared meet all_meet elements_agree slice_size indexed updated operation sized_type prim_size sizing type_of type_in instance instances used taken all_taken fields_taken bound_by erased all_erased is_free is_dim levels all_levels levels_within all_levels_within replaced all_replaced has some_has takes some_takes is_open some_open matched lacking all_lacking differing all_differing turns_from pattern_noted patterns_noted fields_noted sized all_sized turns_sized condition_sized right_sized inner_sized part_of changed_part has_sizes all_have_sizes fields_have_sizes with_sizes all_with_sizes fields_with_sizes ascribed coerced coercion parameter_size declared
+its_firsts = refl
+
+firsts_rules : (nodes : ℕ → Size) → Program_typed N kind.Data firsts K first_types → sizing N first_types firsts ≡ Ok nodes → Program_sized N first_types nodes first_homes firsts
+firsts_rules nodes t e = (program_sizing_meets_rules N first_types first_homes K kind.Data firsts nodes (omega arith) firsts_plain t e).0

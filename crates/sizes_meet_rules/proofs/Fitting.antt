@@ -1,25 +1,26 @@
 -- A lambda that is matched with the function type that a primitive wants: of scalars and of variables, which data has taken but for
 -- the one of the result. Then it has the wanted type, in which no size of a frame stands.
 use Rattle.std.proofs.Common.{◌≡◌, ◌⊎◌, ℕ, zero, suc, ◌+◌, ◌-◌, ◌<◌, ◌≤◌, Bool, true, false, ◌||◌, ◌&&◌, cond, Ok, Err, refl, sym, ap, ◌∙◌, subst, arith, inl, inr, le-ltb}
-use Rattle.std.specs.Prelude.{nat_eq}
+use Rattle.std.specs.Prelude.{nat_eq, min}
 use Rattle.fut_scalar.specs.declared.scalar.ScalarType.{ScalarType}
 use Rattle.fut_types.specs.declared.Head.TheVariants as head
-use Rattle.fut_types.specs.Types.{Ty, Made, more, none, fun_ty, Kinds, rank}
+use Rattle.fut_types.specs.declared.Kind.{Kind}
+use Rattle.fut_types.specs.Types.{Ty, Var, Made, more, none, fun_ty, Sub, Kinds, HasKind, rank, least, level}
 use Rattle.sized_types.specs.Sizes.{Free, Unknown, Slot, Dim, At, Bound, Variable, is_variable, Size, Hole, Open, Level, Built, Fun, Sizes, no_size, size_and, erased, all_erased, is_free, replaced, all_replaced, renaming, renamed, has, some_has}
 use Rattle.sized_types.specs.Standing.{has_hole, some_hole}
 use Rattle.fut_sizes.specs.Agreeing.{Answer, Mismatch, Irregular}
 use Rattle.fut_sizes.specs.Applications.{is_arrow}
 use Rattle.fut_sizes.specs.Functions.{is_slot}
-use Rattle.fut_sizes.specs.Matching.{Found, type_found, counted, found_size, found_dim, read, all_read, Opened, inside, lifted, dim_in, in_opened, Way, turned, to_result, is_unknown, meet_size, meet_dim, meet_dims, any_size, with_any_sizes, open_takes, meet_variable, past_frame, found_frame, left_frame, right_frame, frame_numbers, is_irregular, meet, all_meet}
+use Rattle.fut_sizes.specs.Matching.{Found, type_found, counted, found_size, found_dim, read, all_read, Opened, inside, lifted, dim_in, in_opened, Way, turned, to_result, is_unknown, meet_size, meet_dim, meet_dims, any_size, with_any_sizes, open_takes, meet_variable, past_frame, found_frame, left_frame, right_frame, frame_numbers, is_irregular, compared, all_compared, meet, all_meet}
 use Rattle.fut_sizes.specs.Rules.{Each_hole, filled as with_types, all_filled as all_with_types}
 use Rattle.fut_sizes.specs.Scopes.{instance, instances}
 use Rattle.fut_sizes.specs.Suiting.{Each, Each_all, Scoped, Data, All_data}
-use Rattle.sizes_meet_rules.specs.Known.{Is_made, Formed, All_formed}
-use Rattle.sizes_meet_rules.specs.Plain.{Flat_type}
+use Rattle.sizes_meet_rules.specs.Known.{Is_made, No_sizes, Formed, All_formed}
+use Rattle.sizes_meet_rules.specs.Plain.{Flat_type, Flat_function}
 use Rattle.sizes_meet_rules.proofs.Applying.{Function_size, function_is, read_settled}
-use Rattle.sizes_meet_rules.proofs.Chains.{Alone, alone_scoped, alone_at, alone_replaced}
+use Rattle.sizes_meet_rules.proofs.Chains.{Gives, Alone, alone_scoped, alone_at, alone_replaced}
 use Rattle.sizes_meet_rules.proofs.Filling.{function_holes, Is_inferred, Nice, Taken_at, Taking, Stays, stays_taken, Agrees, agrees_before, other_variable, typed_taking, now_taken, nothing_filled}
-use Rattle.sizes_meet_rules.proofs.Flat_types.{flat, flat_is, flat_met, flat_each}
+use Rattle.sizes_meet_rules.proofs.Flat_types.{flat, flats, flat_is, flat_met, flat_each, flat_read, flat_replaced, flat_data, flat_compared}
 use Rattle.sizes_meet_rules.proofs.Forming.{data_of}
 use Rattle.sizes_meet_rules.proofs.Meeting.{Then_ok, then_ok, same_ok, refused_ok}
 use Rattle.sizes_meet_rules.proofs.Reading.{found_settled}
@@ -172,6 +173,113 @@ module _ (lo at : ℕ) (w : Way) (wanted : w.left_wanted ≡ true) (φ χ : Open
         let a = same_met x t σ r.first dx.0 dt.0 fx.0 ft.0 sx.0 st.0 (let w : erased x ≡ erased t = cc in w) r.done in
         let b = all_same_met xs ts r.first τ dx.1 dt.1 fx.1 ft.1 sx.1 st.1 (let w : all_erased xs ≡ all_erased ts = cc in w) r.rest in
         (ap (λ f. size_and f xs) a.0 ∙ ap (size_and t) b.0, b.1 ∙ a.1)
+
+module _ (at : ℕ) (w : Way) (wanted : w.left_wanted ≡ true) where
+  mutual
+    unfolding compared all_compared Each Each_all Data All_data Formed All_formed erased all_erased
+
+    same_compared : (x t : Size) (σ τ : Found) → Data x → Data t → Formed x → Formed t → Each (Alone Is_settled) 0 x → Each (Alone Is_settled) 0 t → erased x ≡ erased t → compared w at x t σ ≡ Ok τ → (x ≡ t) × (τ ≡ σ)
+    same_compared (Open n v u) t σ τ dx dt fx ft sx st z q = absurd dx
+    same_compared (Fun k p r) t σ τ dx dt fx ft sx st z q = absurd dx
+    same_compared x (Open n v u) σ τ dx dt fx ft sx st z q = absurd dt
+    same_compared x (Fun k p r) σ τ dx dt fx ft sx st z q = absurd dt
+    same_compared (Hole v) (Hole y) σ τ dx dt fx ft sx st z q = (ap Hole (variable_same v y z), sym (same_ok q))
+    same_compared (Hole v) (Level e t) σ τ dx dt fx ft sx st z q = absurd (no_variable_array v (more (erased t) none) z)
+    same_compared (Hole v) (Built g ts) σ τ dx dt fx ft sx st z q = absurd (not_variable v g (all_erased ts) ft.0 z)
+    same_compared (Level d x) (Hole y) σ τ dx dt fx ft sx st z q = absurd (no_variable_array y (more (erased x) none) (sym z))
+    same_compared (Level d x) (Built g ts) σ τ dx dt fx ft sx st z q = absurd (subst Is_made (sym (head_same z)) ft.0)
+    same_compared (Level (Bound k i) x) (Level e t) σ τ dx dt fx ft sx st z q = absurd sx.0
+    same_compared (Level (At d) x) (Level (Bound k i) t) σ τ dx dt fx ft sx st z q = absurd st.0
+    same_compared (Level (At d) x) (Level (At e) t) σ τ dx dt fx ft sx st z q =
+        let r = then_ok (meet_dims w at (At d) (At e) σ) q in
+        let a = settled_dims w at σ r.first d e wanted sx.0 st.0 r.done in
+        let b = same_compared x t r.first τ dx dt fx ft sx.1 st.1 (let y : Made head.Array (more (erased x) none) ≡ Made head.Array (more (erased t) none) = z in cc) r.rest in
+        (ap (λ f. Level (At f) x) a.0 ∙ ap (Level (At e)) b.0, b.1 ∙ a.1)
+    same_compared (Built h xs) (Hole y) σ τ dx dt fx ft sx st z q = absurd (not_variable y h (all_erased xs) fx.0 (sym z))
+    same_compared (Built h xs) (Level e t) σ τ dx dt fx ft sx st z q = absurd (subst Is_made (head_same z) fx.0)
+    same_compared (Built h xs) (Built g ts) σ τ dx dt fx ft sx st z q = let b = all_same_compared xs ts σ τ dx dt fx.1 ft.1 sx st (parts_same z) q in (ap (λ f. Built f xs) (head_same z) ∙ ap (Built g) b.0, b.1)
+
+    all_same_compared : (xs ts : Sizes) (σ τ : Found) → All_data xs → All_data ts → All_formed xs → All_formed ts → Each_all (Alone Is_settled) 0 xs → Each_all (Alone Is_settled) 0 ts → all_erased xs ≡ all_erased ts → all_compared w at xs ts σ ≡ Ok τ → (xs ≡ ts) × (τ ≡ σ)
+    all_same_compared no_size no_size σ τ dx dt fx ft sx st z q = (refl, sym (same_ok q))
+    all_same_compared no_size (size_and t ts) σ τ dx dt fx ft sx st z q = absurd (let y : none ≡ more (erased t) (all_erased ts) = z in cc)
+    all_same_compared (size_and x xs) no_size σ τ dx dt fx ft sx st z q = absurd (let y : more (erased x) (all_erased xs) ≡ none = z in cc)
+    all_same_compared (size_and x xs) (size_and t ts) σ τ dx dt fx ft sx st z q =
+        let y : more (erased x) (all_erased xs) ≡ more (erased t) (all_erased ts) = z in
+        let r = then_ok (compared w at x t σ) q in
+        let a = same_compared x t σ r.first dx.0 dt.0 fx.0 ft.0 sx.0 st.0 (let w : erased x ≡ erased t = cc in w) r.done in
+        let b = all_same_compared xs ts r.first τ dx.1 dt.1 fx.1 ft.1 sx.1 st.1 (let w : all_erased xs ≡ all_erased ts = cc in w) r.rest in
+        (ap (λ f. size_and f xs) a.0 ∙ ap (size_and t) b.0, b.1 ∙ a.1)
+
+-- what a variable has taken is compared
+taken_compared : (b : Bool) (w : Way) (at : ℕ) (x t : Size) (σ : Found) → Data x → meet_variable b w at x t σ ≡ compared (record { left_wanted = b; in_result = w.in_result; regular = w.regular }) at x t σ
+unfolding Data
+taken_compared b w at (Hole v) t σ d = refl
+taken_compared b w at (Open n v u) t σ d = absurd d
+taken_compared b w at (Level e x) t σ d = refl
+taken_compared b w at (Built h xs) t σ d = refl
+taken_compared b w at (Fun k p r) t σ d = absurd d
+
+-- the type of what is given: of data, or of a function whose parameters have no arrays
+abbrev pub Gives_type : Kinds → Ty → Type 0
+Gives_type K (Made head.Fun (more p (more r none))) = Flat_type p × Gives_type K r
+Gives_type K u = 1 ≤ rank K u
+
+no_data_arrow : (K : Kinds) (a b : Ty) → 1 ≤ rank K (fun_ty a b) → ⊥
+unfolding rank least
+no_data_arrow K a b h = let z : 1 ≤ min 0 (min (rank K a) (min (rank K b) 4)) = h in omega (arith, z)
+
+pub data_gives : (K : Kinds) (u : Ty) → 1 ≤ rank K u → Gives_type K u
+data_gives K (Var v) h = h
+data_gives K (Made (head.Scalar s) ts) h = h
+data_gives K (Made head.Array ts) h = h
+data_gives K (Made head.Tuple ts) h = h
+data_gives K (Made (head.Record n) ts) h = h
+data_gives K (Made (head.Rigid n k) ts) h = h
+data_gives K (Made (head.Abstract n k) ts) h = h
+data_gives K (Made head.Fun none) h = h
+data_gives K (Made head.Fun (more p none)) h = h
+data_gives K (Made head.Fun (more p (more r none))) h = absurd (no_data_arrow K p r h)
+data_gives K (Made head.Fun (more p (more r (more t ts)))) h = h
+
+-- a function whose parameters have no arrays chooses no sizes
+pub gives : (K : Kinds) (t : Size) → Formed t → Gives_type K (erased t) → Gives t
+unfolding Formed erased Data
+gives K (Hole v) f h = tt
+gives K (Open m v u) f h = absurd f
+gives K (Level d t) f h = data_of K (Level d t) f h
+gives K (Built (head.Scalar s) ts) f h = data_of K (Built (head.Scalar s) ts) f h
+gives K (Built head.Array ts) f h = absurd f.0
+gives K (Built head.Tuple ts) f h = data_of K (Built head.Tuple ts) f h
+gives K (Built (head.Record n) ts) f h = data_of K (Built (head.Record n) ts) f h
+gives K (Built head.Fun ts) f h = absurd f.0
+gives K (Built (head.Rigid n k) ts) f h = absurd f.0
+gives K (Built (head.Abstract n k) ts) f h = data_of K (Built (head.Abstract n k) ts) f h
+gives K (Fun zero p r) f h = (flat_is p f.0 h.0, gives K r f.1 h.1)
+gives K (Fun (suc k) p r) f h = let z = f.4 (subst No_sizes (sym (flat_is p f.0 h.0)) (flat_each (λ j d. ⊥) 0 (erased p))) in omega (arith, z)
+
+module _ (types : Sub) (home : ℕ → ℕ) (K : Kinds) (places : Kind) (data_places : 1 ≤ level places) where
+  no_data_function : (a b : Ty) → HasKind K places (fun_ty a b) → ⊥
+  unfolding rank least
+  no_data_function a b h = let z : level places ≤ min 0 (min (rank K a) (min (rank K b) 4)) = h in omega (arith, z, data_places)
+
+  no_sizes_flat : (t : Size) → Formed t → Flat_type (erased t) → No_sizes t
+  no_sizes_flat t f h = subst No_sizes (sym (flat_is t f h)) (flat_each (λ j d. ⊥) 0 (erased t))
+
+  pub function_gives : (u : Ty) → HasKind K places u ⊎ Flat_function types home K places u → Gives_type K u
+  function_gives u (inl h) = data_gives K u (omega (arith, data_places, h))
+  function_gives (Made head.Fun (more p (more r none))) (inr h) = (h.0, function_gives r h.1)
+  function_gives u (inr h) = absurd h
+
+  pub plain_arrows : (t : Size) → Formed t → HasKind K places (erased t) ⊎ Flat_function types home K places (erased t) → Plain_arrows t
+  unfolding Formed erased
+  plain_arrows (Hole v) f o = tt
+  plain_arrows (Open m v u) f o = tt
+  plain_arrows (Level d t) f o = tt
+  plain_arrows (Built h ts) f o = tt
+  plain_arrows (Fun zero p r) f (inl h) = absurd (no_data_function (erased p) (erased r) h)
+  plain_arrows (Fun zero p r) f (inr h) = (h.0, plain_arrows r f.1 h.1)
+  plain_arrows (Fun (suc k) p r) f (inl h) = no_data_function (erased p) (erased r) h
+  plain_arrows (Fun (suc k) p r) f (inr h) = let z = f.4 (no_sizes_flat p f.0 h.0) in omega (arith, z)
 
 -- ---- a lambda is matched
 
@@ -350,23 +458,66 @@ module _ (n : ℕ) (types : Variable → Ty) (P : Free → Type 0) (settled : (d
     Met_as p = (b : Bool) (φ χ : Opened) (g : ℕ → Dim → Dim) (j i : ℕ) (t : Size) (before σ τ : Found) → is_wanted q result_variables p ≡ true → Each_hole Is_inferred p → Each_hole (λ v. 1 ≤ rank K (types v)) p → Lambda_says P Vars i t → erased t ≡ erased (instance n types p)
         → Taking n types P settled Vars σ → before.type ≡ σ.type → ((v : Variable) → q v ≡ true → Taken_here σ v) → Unknown_frames χ i → (is_arrow p ≡ false → No_unknown regular σ χ t) → meet lo (wanted_way b regular) at φ (read before (replaced g j (instance n types p))) χ t σ ≡ Ok τ → Function_met σ τ p t
 
-    arrow_met : (p r : Size) → Met_as r → (b : Bool) (φ χ : Opened) (g : ℕ → Dim → Dim) (j i : ℕ) (x s : Size) (before σ τ : Found) → is_simple q p ≡ true → is_wanted q result_variables r ≡ true → Each_hole Is_inferred p → Each_hole Is_inferred r → Each_hole (λ v. 1 ≤ rank K (types v)) r → Lambda_says P Vars i (Fun zero x s) → erased x ≡ erased (instance n types p) → erased s ≡ erased (instance n types r)
-        → Taking n types P settled Vars σ → before.type ≡ σ.type → ((v : Variable) → q v ≡ true → Taken_here σ v) → Unknown_frames χ i → meet lo (wanted_way b regular) at φ (Fun zero (read before (replaced g (suc j) (instance n types p))) (read before (replaced g (suc j) (instance n types r)))) χ (Fun zero x s) σ ≡ Ok τ → Function_met σ τ (Fun zero p r) (Fun zero x s)
+    -- a parameter has the sized type that is wanted
+    record Parameter_met (σ : Found) (p y x : Size) : Type 0 where
+      is : (Θ : Variable → Size) → Agrees n types P settled Vars Θ σ → with_types Θ p ≡ x
+      here : (v : Variable) → has_hole p v ≡ true → Taken_here σ v
+      met : (w : Way) (φ χ : Opened) (m : ℕ) → meet lo w at φ y χ x (counted m σ) ≡ Ok (counted m σ)
+
+    -- and what is given is matched behind it
+    arrow_with : (p r y z x s : Size) (b : Bool) (φ χ : Opened) (i : ℕ) (σ τ : Found) → Lambda_says P Vars i (Fun zero x s) → Parameter_met σ p y x → Unknown_frames χ i
+        → ((φ' χ' : Opened) (m : ℕ) → Unknown_frames χ' (suc i) → No_unknown regular (counted m σ) χ' s → meet lo (wanted_way true regular) at φ' z χ' s (counted m σ) ≡ Ok τ → Function_met (counted m σ) τ r s)
+        → meet lo (wanted_way b regular) at φ (Fun zero y z) χ (Fun zero x s) σ ≡ Ok τ → Function_met σ τ (Fun zero p r) (Fun zero x s)
     unfolding meet Formed Each Each_hole function_holes with_types
-    arrow_met p r rest b φ χ g j i x s before σ τ sp wr ip ir kr says tx ts k same taken frames e = record {
+    arrow_with p r y z x s b φ χ i σ τ says V frames rest e = record {
       taking = R.taking;
-      stays = λ v y. R.stays v y;
+      stays = λ v k. R.stays v k;
       size = R.size;
       later = let l = R.later in omega (arith, l);
       maker = R.maker;
-      here = λ v y. by_place v (has_hole p v) refl y;
-      is = λ Θ a. ap (λ y. Fun zero y (with_types Θ r)) (V.is Θ (agrees_before n types P settled Vars Θ σ τ R.stays a) ∙ same_size) ∙ ap (Fun zero x) (R.is Θ a);
+      here = λ v k. by_place v (has_hole p v) refl k;
+      is = λ Θ a. ap (λ k. Fun zero k (with_types Θ r)) (V.is Θ (agrees_before n types P settled Vars Θ σ τ R.stays a)) ∙ ap (Fun zero x) (R.is Θ a);
       alone = (subst (Each (Alone P) 1) (sym flat_x) (flat_each (Alone P) 1 (erased x)), alone_at P s 0 1 R.alone);
     }
       where
         way : Way
         way = wanted_way b regular
 
+        flat_x : x ≡ flat (erased x)
+        flat_x = flat_is x says.formed.0 says.arrows.0
+
+        next : Found
+        next = counted (frame_numbers zero zero z s) σ
+
+        left : ℕ → Dim
+        left = left_frame way lo σ.next zero zero s
+
+        right : ℕ → Dim
+        right = right_frame way lo σ.next zero zero z
+
+        X : Then_ok (meet lo (turned way) at (inside left φ) y (inside right χ) x next) (λ found. cond (is_irregular way (read found (in_opened (inside left φ) z)) (read found (in_opened (inside right χ) s))) (Err (Irregular at)) (meet lo (to_result way) at (inside left φ) z (inside right χ) s found)) τ
+        X = then_ok (meet lo (turned way) at (inside left φ) y (inside right χ) x next) e
+
+        matched : X.first ≡ next
+        matched = same_ok (sym X.done ∙ V.met (turned way) (inside left φ) (inside right χ) (frame_numbers zero zero z s))
+
+        tested : (regular ≡ true → has is_unknown (read next (in_opened (inside right χ) s)) ≡ false) × (meet lo (to_result way) at (inside left φ) z (inside right χ) s next ≡ Ok τ)
+        tested = irregular_ok regular (has is_unknown (read next (in_opened (inside right χ) s))) at (meet lo (to_result way) at (inside left φ) z (inside right χ) s next) τ
+            (ap (λ (found : Found). cond (is_irregular way (read found (in_opened (inside left φ) z)) (read found (in_opened (inside right χ) s))) (Err (Irregular at)) (meet lo (to_result way) at (inside left φ) z (inside right χ) s found)) (sym matched) ∙ X.rest)
+
+        R : Function_met next τ r s
+        R = rest (inside left φ) (inside right χ) (frame_numbers zero zero z s) (found_unknown lo (past_frame σ.next zero z) (σ.next + zero) χ i frames) tested.0 tested.1
+
+        by_place : (v : Variable) (c : Bool) → has_hole p v ≡ c → c || function_holes r v ≡ true → Taken_here τ v
+        by_place v true k l = stays_taken n types P settled Vars σ τ R.stays v (V.here v k)
+        by_place v false k l = R.here v l
+
+    arrow_met : (p r : Size) → Met_as r → (b : Bool) (φ χ : Opened) (g : ℕ → Dim → Dim) (j i : ℕ) (x s : Size) (before σ τ : Found) → is_simple q p ≡ true → is_wanted q result_variables r ≡ true → Each_hole Is_inferred p → Each_hole Is_inferred r → Each_hole (λ v. 1 ≤ rank K (types v)) r → Lambda_says P Vars i (Fun zero x s) → erased x ≡ erased (instance n types p) → erased s ≡ erased (instance n types r)
+        → Taking n types P settled Vars σ → before.type ≡ σ.type → ((v : Variable) → q v ≡ true → Taken_here σ v) → Unknown_frames χ i → meet lo (wanted_way b regular) at φ (Fun zero (read before (replaced g (suc j) (instance n types p))) (read before (replaced g (suc j) (instance n types r)))) χ (Fun zero x s) σ ≡ Ok τ → Function_met σ τ (Fun zero p r) (Fun zero x s)
+    unfolding Formed Each Each_hole
+    arrow_met p r rest b φ χ g j i x s before σ τ sp wr ip ir kr says tx ts k same taken frames e = arrow_with p r (read before (replaced g (suc j) (instance n types p))) (read before (replaced g (suc j) (instance n types r))) x s b φ χ i σ τ says parameter frames
+        (λ φ' χ' m fr none_there z. rest true φ' χ' g (suc j) (suc i) s before (counted m σ) τ wr ir kr (record { formed = says.formed.1; sizes = says.sizes.1; variables = says.variables.1; arrows = says.arrows.1 }) ts k same taken fr (λ y. none_there) z) e
+      where
         V : Simple_value σ p (read before (replaced g (suc j) (instance n types p)))
         V = simple_value q g (suc j) p before σ sp ip same taken
 
@@ -376,35 +527,12 @@ module _ (n : ℕ) (types : Variable → Ty) (P : Free → Type 0) (settled : (d
         flat_wanted : read before (replaced g (suc j) (instance n types p)) ≡ flat (erased x)
         flat_wanted = flat_is (read before (replaced g (suc j) (instance n types p))) V.formed (subst Flat_type (tx ∙ sym V.typed) says.arrows.0) ∙ ap flat (V.typed ∙ sym tx)
 
-        same_size : read before (replaced g (suc j) (instance n types p)) ≡ x
-        same_size = flat_wanted ∙ sym flat_x
-
-        next : Found
-        next = counted (frame_numbers zero zero (read before (replaced g (suc j) (instance n types r))) s) σ
-
-        left : ℕ → Dim
-        left = left_frame way lo σ.next zero zero s
-
-        right : ℕ → Dim
-        right = right_frame way lo σ.next zero zero (read before (replaced g (suc j) (instance n types r)))
-
-        X : Then_ok (meet lo (turned way) at (inside left φ) (read before (replaced g (suc j) (instance n types p))) (inside right χ) x next) (λ found. cond (is_irregular way (read found (in_opened (inside left φ) (read before (replaced g (suc j) (instance n types r))))) (read found (in_opened (inside right χ) s))) (Err (Irregular at)) (meet lo (to_result way) at (inside left φ) (read before (replaced g (suc j) (instance n types r))) (inside right χ) s found)) τ
-        X = then_ok (meet lo (turned way) at (inside left φ) (read before (replaced g (suc j) (instance n types p))) (inside right χ) x next) e
-
-        matched : X.first ≡ next
-        matched = same_ok (sym X.done ∙ ap (λ y. meet lo (turned way) at (inside left φ) y (inside right χ) x next) flat_wanted ∙ ap (λ y. meet lo (turned way) at (inside left φ) (flat (erased x)) (inside right χ) y next) flat_x ∙ flat_met lo at (turned way) (inside left φ) (inside right χ) (erased x) next)
-
-        tested : (regular ≡ true → has is_unknown (read next (in_opened (inside right χ) s)) ≡ false) × (meet lo (to_result way) at (inside left φ) (read before (replaced g (suc j) (instance n types r))) (inside right χ) s next ≡ Ok τ)
-        tested = irregular_ok regular (has is_unknown (read next (in_opened (inside right χ) s))) at (meet lo (to_result way) at (inside left φ) (read before (replaced g (suc j) (instance n types r))) (inside right χ) s next) τ
-            (ap (λ (found : Found). cond (is_irregular way (read found (in_opened (inside left φ) (read before (replaced g (suc j) (instance n types r))))) (read found (in_opened (inside right χ) s))) (Err (Irregular at)) (meet lo (to_result way) at (inside left φ) (read before (replaced g (suc j) (instance n types r))) (inside right χ) s found)) (sym matched) ∙ X.rest)
-
-        R : Function_met next τ r s
-        R = rest true (inside left φ) (inside right χ) g (suc j) (suc i) s before next τ wr ir kr (record { formed = says.formed.1; sizes = says.sizes.1; variables = says.variables.1; arrows = says.arrows.1 }) ts k same taken
-            (found_unknown lo (past_frame σ.next zero (read before (replaced g (suc j) (instance n types r)))) (σ.next + zero) χ i frames) (λ z. tested.0) tested.1
-
-        by_place : (v : Variable) (c : Bool) → has_hole p v ≡ c → c || function_holes r v ≡ true → Taken_here τ v
-        by_place v true z y = stays_taken n types P settled Vars σ τ R.stays v (V.here v z)
-        by_place v false z y = R.here v y
+        parameter : Parameter_met σ p (read before (replaced g (suc j) (instance n types p))) x
+        parameter = record {
+          is = λ Θ a. V.is Θ a ∙ flat_wanted ∙ sym flat_x;
+          here = V.here;
+          met = λ w φ' χ' m. ap (λ y. meet lo w at φ' y χ' x (counted m σ)) flat_wanted ∙ ap (λ y. meet lo w at φ' (flat (erased x)) χ' y (counted m σ)) flat_x ∙ flat_met lo at w φ' χ' (erased x) (counted m σ);
+        }
 
     pub met_as : (p : Size) → Met_as p
     unfolding is_wanted is_simple Each_hole read replaced instance erased all_erased
@@ -431,3 +559,121 @@ module _ (n : ℕ) (types : Variable → Ty) (P : Free → Type 0) (settled : (d
     met_as (Built (head.Abstract m c) ts) b φ χ g j i t before σ τ e inferred kinds says typed k same taken frames none_there z = absurd (let w : false ≡ true = e in cc)
     met_as (Open m v u) b φ χ g j i t before σ τ e inferred kinds says typed k same taken frames none_there z = absurd inferred
     met_as (Level d x) b φ χ g j i t before σ τ e inferred kinds says typed k same taken frames none_there z = absurd (let w : false ≡ true = e in cc)
+
+    -- ---- the same of a function that is matched as it is wanted, not as that reads
+
+    -- a variable that has taken a type without arrays
+    flat_variable : (b : Bool) (w : Way) (u : Ty) (σ : Found) → meet_variable b w at (flat u) (flat u) σ ≡ Ok σ
+    flat_variable b w u σ = taken_compared b w at (flat u) (flat u) σ (flat_data u) ∙ flat_compared (record { left_wanted = b; in_result = w.in_result; regular = w.regular }) at u σ
+
+    flat_here : (χ : Opened) (u : Ty) (σ : Found) → read σ (in_opened χ (flat u)) ≡ flat u
+    flat_here χ u σ = ap (read σ) (flat_replaced (dim_in χ) 0 u) ∙ flat_read σ u
+
+    wanted_parameter : (p x : Size) (σ : Found) → is_simple q p ≡ true → Each_hole Is_inferred p → Formed x → Flat_type (erased x) → erased x ≡ erased (instance n types p) → ((v : Variable) → q v ≡ true → Taken_here σ v) → Parameter_met σ p (instance n types p) x
+    unfolding is_simple Each_hole instance instances with_types all_with_types has_hole some_hole erased all_erased meet all_meet flat flats
+    wanted_parameter (Hole v) x σ e i fx flat_type tx taken = record {
+      is = λ Θ a. sym (a v h) ∙ now ∙ sym x_is;
+      here = λ y z. subst (Taken_here σ) (other_variable n types P settled Vars v y i z) h;
+      met = λ w φ χ m. ap (λ y. meet_variable w.left_wanted w at y (read (counted m σ) (in_opened χ x)) (counted m σ)) now ∙ ap (λ y. meet_variable w.left_wanted w at (flat (types v)) (read (counted m σ) (in_opened χ y)) (counted m σ)) x_is
+          ∙ ap (λ y. meet_variable w.left_wanted w at (flat (types v)) y (counted m σ)) (flat_here χ (types v) (counted m σ)) ∙ flat_variable w.left_wanted w (types v) (counted m σ);
+    }
+      where
+        h : Taken_here σ v
+        h = taken v e
+
+        x_is : x ≡ flat (types v)
+        x_is = flat_is x fx flat_type ∙ ap flat tx
+
+        now : σ.type n v (types v) ≡ flat (types v)
+        now = flat_is (σ.type n v (types v)) h.formed (subst Flat_type (tx ∙ sym h.typed) flat_type) ∙ ap flat h.typed
+    wanted_parameter (Built (head.Scalar s) no_size) x σ e i fx flat_type tx taken = record {
+      is = λ Θ a. sym x_is;
+      here = λ y z. absurd (let w : false ≡ true = z in cc);
+      met = λ w φ χ m. ap (λ y. meet lo w at φ (Built (head.Scalar s) no_size) χ y (counted m σ)) x_is;
+    }
+      where
+        x_is : x ≡ Built (head.Scalar s) no_size
+        x_is = flat_is x fx flat_type ∙ ap flat tx
+    wanted_parameter (Built (head.Scalar s) (size_and t ts)) x σ e i fx flat_type tx taken = absurd (let w : false ≡ true = e in cc)
+    wanted_parameter (Built head.Array ts) x σ e i fx flat_type tx taken = absurd (let w : false ≡ true = e in cc)
+    wanted_parameter (Built head.Tuple ts) x σ e i fx flat_type tx taken = absurd (let w : false ≡ true = e in cc)
+    wanted_parameter (Built (head.Record m) ts) x σ e i fx flat_type tx taken = absurd (let w : false ≡ true = e in cc)
+    wanted_parameter (Built head.Fun ts) x σ e i fx flat_type tx taken = absurd (let w : false ≡ true = e in cc)
+    wanted_parameter (Built (head.Rigid m c) ts) x σ e i fx flat_type tx taken = absurd (let w : false ≡ true = e in cc)
+    wanted_parameter (Built (head.Abstract m c) ts) x σ e i fx flat_type tx taken = absurd (let w : false ≡ true = e in cc)
+    wanted_parameter (Open m v u) x σ e i fx flat_type tx taken = absurd i
+    wanted_parameter (Level d t) x σ e i fx flat_type tx taken = absurd (let w : false ≡ true = e in cc)
+    wanted_parameter (Fun k y r) x σ e i fx flat_type tx taken = absurd (let w : false ≡ true = e in cc)
+
+    unread_variable : (b : Bool) (φ χ : Opened) (i : ℕ) (v : Variable) (t : Size) (σ τ : Found) → regular ≡ true → Is_inferred v → 1 ≤ rank K (types v) → Lambda_says P Vars i t → erased t ≡ types v → Taking n types P settled Vars σ → Unknown_frames χ i → No_unknown regular σ χ t
+        → meet lo (wanted_way b regular) at φ (Open n v (types v)) χ t σ ≡ Ok τ → Function_met σ τ (Hole v) t
+    unfolding meet has_hole function_holes with_types
+    unread_variable b φ χ i v t σ τ e inferred kind says typed k frames none_there z = by_form (k v)
+      where
+        none_here : has is_unknown (read σ (in_opened χ t)) ≡ false
+        none_here = none_there e
+
+        alone : Data t → Each (Alone P) 0 t
+        alone d = no_frame P settled σ χ i frames t d says.sizes none_here
+
+        way : Way
+        way = wanted_way b regular
+
+        t_data : Data t
+        t_data = is_data lo at way refl φ χ v inferred kind t i says typed σ τ k alone
+
+        it_is : read σ (in_opened χ t) ≡ t
+        it_is = it_read lo at way refl φ χ v inferred kind t i says typed σ τ k alone
+
+        of_taken : Taken_here σ v → Function_met σ τ (Hole v) t
+        of_taken h =
+            let same = same_compared at way refl (σ.type n v (types v)) t σ τ h.is_data t_data h.formed says.formed (each_alone P Is_settled settled (σ.type n v (types v)) 0 (data_alone P (σ.type n v (types v)) h.is_data h.sizes)) (it_settled lo at way refl φ χ v inferred kind t i says typed σ τ k alone) (h.typed ∙ sym typed)
+            (sym (taken_compared true way at (σ.type n v (types v)) t σ h.is_data) ∙ ap (λ x. meet_variable true way at (σ.type n v (types v)) x σ) (sym it_is) ∙ z) in
+            subst (λ (y : Found). Function_met σ y (Hole v) t) (sym same.1) (record {
+              taking = k;
+              stays = λ x y. refl;
+              size = refl;
+              later = omega arith;
+              maker = refl;
+              here = λ y o. subst (Taken_here σ) (sym (sym (other_variable n types P settled Vars v y inferred o))) h;
+              is = λ Θ a. sym (a v h) ∙ same.0;
+              alone = alone t_data;
+            })
+
+        by_form : (σ.type n v (types v) ≡ Open n v (types v)) ⊎ Taken_here σ v → Function_met σ τ (Hole v) t
+        by_form (inl o) = result_open lo at way refl φ χ v inferred kind t i says typed σ τ k alone o (ap (has is_unknown) (sym it_is) ∙ none_here) z
+        by_form (inr h) = of_taken h
+
+    abbrev pub Unread : Size → Type 0
+    Unread p = (b : Bool) (φ χ : Opened) (i : ℕ) (t : Size) (σ τ : Found) → is_wanted q result_variables p ≡ true → Each_hole Is_inferred p → Each_hole (λ v. 1 ≤ rank K (types v)) p → Lambda_says P Vars i t → erased t ≡ erased (instance n types p) → Taking n types P settled Vars σ
+        → ((v : Variable) → q v ≡ true → Taken_here σ v) → Unknown_frames χ i → (is_arrow p ≡ false → No_unknown regular σ χ t) → meet lo (wanted_way b regular) at φ (instance n types p) χ t σ ≡ Ok τ → Function_met σ τ p t
+
+    pub unread_met : (p : Size) → Unread p
+    unfolding is_wanted is_simple Each_hole Each instance erased all_erased Formed
+    unread_met (Hole v) b φ χ i t σ τ e inferred kinds says typed k taken frames none_there z = unread_variable b φ χ i v t σ τ e inferred kinds says typed k frames (none_there refl) z
+    unread_met (Fun zero p r) b φ χ i t σ τ e inferred kinds says typed k taken frames none_there z = by_function (unread_met r) F.chosen F.from F.to F.is_function F.from_typed F.to_typed
+      where
+        F : Function_size t (erased (instance n types p)) (erased (instance n types r))
+        F = function_is t (erased (instance n types p)) (erased (instance n types r)) says.formed typed
+
+        w : (is_simple q p ≡ true) × (is_wanted q result_variables r ≡ true)
+        w = both_true (is_simple q p) (is_wanted q result_variables r) e
+
+        by_says : (x s : Size) → Lambda_says P Vars i (Fun zero x s) → Unread r → erased x ≡ erased (instance n types p) → erased s ≡ erased (instance n types r) → meet lo (wanted_way b regular) at φ (Fun zero (instance n types p) (instance n types r)) χ (Fun zero x s) σ ≡ Ok τ → Function_met σ τ (Fun zero p r) (Fun zero x s)
+        by_says x s o rest tx ts y = arrow_with p r (instance n types p) (instance n types r) x s b φ χ i σ τ o (wanted_parameter p x σ w.0 inferred.0 o.formed.0 o.arrows.0 tx taken) frames
+            (λ φ' χ' m fr none_here u. rest true φ' χ' (suc i) s (counted m σ) τ w.1 inferred.1 kinds.1 (record { formed = o.formed.1; sizes = o.sizes.1; variables = o.variables.1; arrows = o.arrows.1 }) ts k taken fr (λ y. none_here) u) y
+
+        by_function : Unread r → (l : ℕ) (x s : Size) → t ≡ Fun l x s → erased x ≡ erased (instance n types p) → erased s ≡ erased (instance n types r) → Function_met σ τ (Fun zero p r) t
+        by_function rest zero x s f tx ts = subst (Function_met σ τ (Fun zero p r)) (sym f) (by_says x s (subst (Lambda_says P Vars i) f says) rest tx ts (ap (λ y. meet lo (wanted_way b regular) at φ (Fun zero (instance n types p) (instance n types r)) χ y σ) (sym f) ∙ z))
+        by_function rest (suc l) x s f tx ts = absurd (subst Plain_arrows f says.arrows)
+    unread_met (Fun (suc l) p r) b φ χ i t σ τ e inferred kinds says typed k taken frames none_there z = absurd (let y : false ≡ true = e in cc)
+    unread_met (Built (head.Scalar s) no_size) b φ χ i t σ τ e inferred kinds says typed k taken frames none_there z = scalar_met lo at (wanted_way b regular) φ χ s t i σ τ k says typed z
+    unread_met (Built (head.Scalar s) (size_and y ts)) b φ χ i t σ τ e inferred kinds says typed k taken frames none_there z = absurd (let w : false ≡ true = e in cc)
+    unread_met (Built head.Array ts) b φ χ i t σ τ e inferred kinds says typed k taken frames none_there z = absurd (let w : false ≡ true = e in cc)
+    unread_met (Built head.Tuple ts) b φ χ i t σ τ e inferred kinds says typed k taken frames none_there z = absurd (let w : false ≡ true = e in cc)
+    unread_met (Built (head.Record m) ts) b φ χ i t σ τ e inferred kinds says typed k taken frames none_there z = absurd (let w : false ≡ true = e in cc)
+    unread_met (Built head.Fun ts) b φ χ i t σ τ e inferred kinds says typed k taken frames none_there z = absurd (let w : false ≡ true = e in cc)
+    unread_met (Built (head.Rigid m c) ts) b φ χ i t σ τ e inferred kinds says typed k taken frames none_there z = absurd (let w : false ≡ true = e in cc)
+    unread_met (Built (head.Abstract m c) ts) b φ χ i t σ τ e inferred kinds says typed k taken frames none_there z = absurd (let w : false ≡ true = e in cc)
+    unread_met (Open m v u) b φ χ i t σ τ e inferred kinds says typed k taken frames none_there z = absurd inferred
+    unread_met (Level d x) b φ χ i t σ τ e inferred kinds says typed k taken frames none_there z = absurd (let w : false ≡ true = e in cc)

@@ -94,6 +94,22 @@ number_replaced g (Built h no_size) j = refl
 number_replaced g (Built h (size_and t ts)) j = refl
 number_replaced g (Fun k p r) j = refl
 
+-- what is replaced has sizes where it had some
+module _ (g : ℕ → Dim → Dim) where
+  mutual
+    unfolding Each Each_all replaced all_replaced
+
+    pub no_sizes_before : (t : Size) (i j : ℕ) → Each (λ l d. ⊥) i (replaced g j t) → Each (λ l d. ⊥) i t
+    no_sizes_before (Hole v) i j h = tt
+    no_sizes_before (Open n v u) i j h = tt
+    no_sizes_before (Level d t) i j h = absurd h.0
+    no_sizes_before (Built k ts) i j h = all_no_sizes_before ts i j h
+    no_sizes_before (Fun k p r) i j h = (no_sizes_before p (suc i) (suc j) h.0, no_sizes_before r (suc i) (suc j) h.1)
+
+    all_no_sizes_before : (ts : Sizes) (i j : ℕ) → Each_all (λ l d. ⊥) i (all_replaced g j ts) → Each_all (λ l d. ⊥) i ts
+    all_no_sizes_before no_size i j h = tt
+    all_no_sizes_before (size_and t ts) i j h = (no_sizes_before t i j h.0, all_no_sizes_before ts i j h.1)
+
 module _ (g : ℕ → Dim → Dim) (keeps : (Q : ℕ → Type 0) (m j : ℕ) (d : Dim) → m ≤ j → Of_positions Q m d → Of_positions Q m (g j d)) where
   mutual
     unfolding Each Each_all replaced all_replaced
@@ -117,7 +133,7 @@ module _ (g : ℕ → Dim → Dim) (keeps : (Q : ℕ → Type 0) (m j : ℕ) (d 
     formed_replaced (Open n v u) j h = h
     formed_replaced (Level d t) j h = formed_replaced t j h
     formed_replaced (Built k ts) j h = (h.0, all_formed_replaced ts j h.1)
-    formed_replaced (Fun k p r) j h = (formed_replaced p (suc j) h.0, formed_replaced r (suc j) h.1, low_replaced (λ i. i < k) p 1 (suc j) (omega arith) h.2, λ e. low_replaced (λ i. i ≡ k → ⊥) r 1 (suc j) (omega arith) (h.3 (sym (number_replaced g p (suc j)) ∙ e)))
+    formed_replaced (Fun k p r) j h = (formed_replaced p (suc j) h.0, formed_replaced r (suc j) h.1, low_replaced (λ i. i < k) p 1 (suc j) (omega arith) h.2, λ e. low_replaced (λ i. i ≡ k → ⊥) r 1 (suc j) (omega arith) (h.3 (sym (number_replaced g p (suc j)) ∙ e)), λ e. h.4 (no_sizes_before g p 0 (suc j) e))
 
     all_formed_replaced : (ts : Sizes) (j : ℕ) → All_formed ts → All_formed (all_replaced g j ts)
     all_formed_replaced no_size j h = tt

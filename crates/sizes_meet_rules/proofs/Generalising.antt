@@ -61,7 +61,7 @@ module _ (N : Names) (types : Sub) (K : Kinds) (places : Kind) (In : Free → Ty
   abbrev pub with_function : Scope
   with_function = with_known x.0 (record { size = function_size; is_general = true }) scope
 
-  pub known_general : (T : TypeScope) (uses : Uses) → Says In Vars function_size → Each_hole None_there function_size → erased function_size ≡ types (home x.0) → ((u : Ty) → uses K types u → ((a : Ty) × (c : Ty) × (u ≡ fun_ty a c)) ⊎ (types (home x.0) ≡ i64_ty)) → (is_i64_size function_size ≡ true → In (Name x.0)) → Known_names In Vars home scope K types T → Known_names In Vars home with_function K types (with_uses x.0 uses T)
+  pub known_general : (T : TypeScope) (uses : Uses) → Says In Vars function_size → Each_hole None_there function_size → erased function_size ≡ types (home x.0) → ((u : Ty) → uses K types u → ((a : Ty) × (c : Ty) × (u ≡ fun_ty a c)) ⊎ ((types (home x.0) ≡ i64_ty) ⊎ (u ≡ types (home x.0)))) → (is_i64_size function_size ≡ true → In (Name x.0)) → Known_names In Vars home scope K types T → Known_names In Vars home with_function K types (with_uses x.0 uses T)
   known_general T uses says closed e arrow number known b u = elim (ℕ_discrete b x.0) as (λ d. (elim d as (λ d. Uses) [ yes e ↦ uses | no ne ↦ T.uses b ]) K types u → Known_name In Vars types home with_function b u) [
     | yes y ↦ λ a. record {
       size = function_size;
@@ -69,7 +69,7 @@ module _ (N : Names) (types : Sub) (K : Kinds) (places : Kind) (In : Free → Ty
       known = ap (λ z. cond z (Some (record { size = function_size; is_general = true })) (scope b)) (eq-eqb x.0 b (sym y));
       says = says;
       closed = λ g. closed;
-      function = λ g. subst (λ c. ((p : Ty) × (r : Ty) × (u ≡ fun_ty p r)) ⊎ (types (home c) ≡ i64_ty)) (sym y) (arrow u a);
+      function = λ g. subst (λ c. ((p : Ty) × (r : Ty) × (u ≡ fun_ty p r)) ⊎ ((types (home c) ≡ i64_ty) ⊎ (u ≡ types (home c)))) (sym y) (arrow u a);
       typed = λ g. e ∙ ap (λ c. types (home c)) (sym y) ∙ sym (g refl);
       number = λ z. subst (λ c. In (Name c)) (sym y) (number z);
     }

@@ -22,6 +22,7 @@ use Rattle.fut_sizes.specs.Steps.{State, Done}
 use Rattle.fut_sizes.specs.Suiting.{suits_same}
 use Rattle.sizes_meet_rules.specs.Known.{Says, Known_name, Judged}
 use Rattle.sizes_meet_rules.proofs.Chains.{Given, arguments, arrows_of, Takes_all, Has_arrows, Widths, takes_arrows, All_kinds, data_kinds as kinds_of_data, last_found, no_function_met, Steps_ran, Matched_ran, steps_ran, data_ran}
+use Rattle.sizes_meet_rules.proofs.Fitting.{Gives_type, data_gives}
 use Rattle.sizes_meet_rules.proofs.Filling.{data_holes, lambda_holes, Taken_at, Agrees, stays_taken, Arrows, none_taken, Chain_as, chain_as}
 use Rattle.sizes_meet_rules.proofs.Alike.{Behind_data, Given_ran, given_ran}
 use Rattle.sizes_meet_rules.proofs.Lambdas.{All_data_given, One_given, given_data, one_kinds, Kinds_taken, data_kinds, kinds_take, One_lambda, Lambda_met, lambda_ran}
@@ -74,12 +75,12 @@ module _ (N : Names) (types : Sub) (home : ℕ → ℕ) (K : Kinds) where
         pub ends : Ends ran.after
         pub rule : (m : ℕ) (s : ℕ → Size) (G : Context) → Judged In Vars scope G → s m ≡ size → Sized N types s home term m G
 
-      module _ (result : Ty) (result_data : 1 ≤ rank K result) (arrows : type ≡ arrows_of types gs result) (widths : Widths gs whole) (ran : finished N types n (Applied whole regular (arguments gs)) st ≡ Ok u) where
+      module _ (result : Ty) (arrows : type ≡ arrows_of types gs result) (widths : Widths gs whole) (ran : finished N types n (Applied whole regular (arguments gs)) st ≡ Ok u) where
         abbrev Stays_there : State → Type 0
         Stays_there s = s ≡ st
 
-        named_resolved : All_data_given P Vars K types gs → Named_head → Resolved Stays_there
-        named_resolved D H = record {
+        named_resolved : Gives_type K result → All_data_given P Vars K types gs → Named_head → Resolved Stays_there
+        named_resolved result_given D H = record {
           size = H.name.size;
           says = says_more In P Vars H.name.size wide H.name.says;
           typed = typed;
@@ -93,7 +94,7 @@ module _ (N : Names) (types : Sub) (home : ℕ → ℕ) (K : Kinds) where
             typed = H.name.typed (λ g. H.used)
 
             takes : Takes_all gs H.name.size
-            takes = kinds_take P Vars K types gs H.name.size result H.name.says.formed (typed ∙ arrows) result_data (data_kinds P Vars K types gs H.name.size D)
+            takes = kinds_take P Vars K types gs H.name.size result H.name.says.formed (typed ∙ arrows) result_given (data_kinds P Vars K types gs H.name.size D)
 
             has : Has_arrows gs H.name.size
             has = takes_arrows gs H.name.size takes (subst (Widths gs) H.whole_is widths)
@@ -102,7 +103,7 @@ module _ (N : Names) (types : Sub) (home : ℕ → ℕ) (K : Kinds) where
             M = data_ran n N types regular gs H.name.size st u has (given_data P Vars K types n gs D)
                 (steps_ran n N types regular gs H.name.size st u has (kinds_of_data n gs (given_data P Vars K types n gs D)) (ap (λ t. finished N types n (Applied t regular (arguments gs)) st) (sym H.whole_is) ∙ ran))
 
-        module _ (H : Primitive_head) where
+        module _ (H : Primitive_head) (result_data : 1 ≤ rank K result) where
           abbrev there : Variable → Ty
           there = types_there H.node H.primitive type H.given H.typed
 
@@ -136,7 +137,7 @@ module _ (N : Names) (types : Sub) (home : ℕ → ℕ) (K : Kinds) where
                 size = with_types G.types_now prim_there;
                 says = says;
                 typed = typed;
-                takes = kinds_take P Vars K types gs (with_types G.types_now prim_there) result says.formed (typed ∙ arrows) result_data (kinds G.types_now G.agrees);
+                takes = kinds_take P Vars K types gs (with_types G.types_now prim_there) result says.formed (typed ∙ arrows) (data_gives K result result_data) (kinds G.types_now G.agrees);
                 ran = G.ran;
                 ends = subst Ends (sym G.after_is) ends;
                 rule = λ m s G' J e. subst (λ t. Sized N types s home t m G') (sym H.term_is) (subst (Filled_use (λ v. true) prim_there) (sym e) (record { types = G.types_now; data_types = G.is_data; closed = G.closed; others = λ v z. absurd (let y : true ≡ false = z in cc); used = inl suits_same }));
@@ -207,6 +208,6 @@ module _ (N : Names) (types : Sub) (home : ℕ → ℕ) (K : Kinds) where
               let A = prim_lambda H.node H.primitive type H.given H.typed P settled Vars K H.kinds types gs result result_data arrows Went st after n D in
               lambda_given A.0 (steps A.0 (one_kinds P Vars K types Went st after gs D)) Went after A.1
 
-        pub resolved : All_data_given P Vars K types gs → Head → Resolved Stays_there
-        resolved D (inl H) = named_resolved D H
-        resolved D (inr H) = primitive_data H D
+        pub resolved : Gives_type K result → (Primitive_head → 1 ≤ rank K result) → All_data_given P Vars K types gs → Head → Resolved Stays_there
+        resolved gives_it is_data D (inl H) = named_resolved gives_it D H
+        resolved gives_it is_data D (inr H) = primitive_data H (is_data H) D

@@ -1,22 +1,23 @@
 -- The lambda among the arguments of a primitive: once data is matched it is sized as by itself, and matched with what is wanted.
-use Rattle.std.proofs.Common.{◌≡◌, ◌⊎◌, ℕ, zero, suc, ◌<◌, ◌≤◌, List, [], ◌∷◌, Bool, true, false, ◌||◌, ◌&&◌, Option, Some, None, Ok, refl, sym, ap, ◌∙◌, subst, arith, inl, inr}
+use Rattle.std.proofs.Common.{◌≡◌, ◌⊎◌, ℕ, zero, suc, ◌<◌, ◌≤◌, List, [], ◌∷◌, Bool, true, false, ◌||◌, ◌&&◌, cond, Option, Some, None, Ok, refl, sym, ap, ◌∙◌, subst, arith, inl, inr}
 use Rattle.fut_types.specs.declared.Head.TheVariants as head
 use Rattle.fut_types.specs.Types.{Ty, fun_ty, Sub, Kinds, rank}
 use Rattle.sized_types.specs.Sizes.{Free, Dim, Variable, Size, Hole, Open, Level, Built, Fun, no_size, size_and, erased, all_erased, replaced, all_replaced}
-use Rattle.fut_sizes.specs.Applications.{Want, Met, is_arrow, functions_met}
+use Rattle.fut_sizes.specs.Agreeing.{Answer}
+use Rattle.fut_sizes.specs.Applications.{Want, Met, is_function, is_arrow, functions_met}
 use Rattle.fut_sizes.specs.Functions.{is_slot}
 use Rattle.fut_sizes.specs.Matching.{Found, made_at, read, all_read, Opened, none_opened, dim_in, in_opened, function_way, meet}
 use Rattle.fut_sizes.specs.Rules.{Each_hole, filled as with_types}
 use Rattle.fut_sizes.specs.Scopes.{instance, instances}
-use Rattle.fut_sizes.specs.Steps.{State, Done, Step, and_then, give}
+use Rattle.fut_sizes.specs.Steps.{State, Done, Step, ask, and_then, give}
 use Rattle.fut_sizes.specs.Suiting.{Each, Of_positions, Data}
-use Rattle.sizes_meet_rules.specs.Known.{is_i64_size, Formed, All_formed}
+use Rattle.sizes_meet_rules.specs.Known.{is_i64_size, No_sizes, Formed, All_formed}
 use Rattle.sizes_meet_rules.proofs.Applying.{Function_size, function_is}
 use Rattle.sizes_meet_rules.proofs.Forming.{data_of}
 use Rattle.sizes_meet_rules.proofs.Chains.{All_kinds, data_kinds as kinds_of_data, arrows_of, Takes_all, Taken_by, Given, Waiting_given, argument_by, here, opened_by, after as found_after, given_wants, All_data, Has_arrows, one_function, function_step, data_passed, no_function_met, kept_maker, Alone, Function_taken}
 use Rattle.sizes_meet_rules.proofs.Filling.{Data_fit, function_holes, lambda_holes, Is_inferred, Taken_at, Taking, Stays, Agrees}
-use Rattle.sizes_meet_rules.proofs.Fitting.{is_simple, is_wanted, Lambda_says, Function_met, simple_value, met_as, each_alone}
-use Rattle.sizes_meet_rules.proofs.Meeting.{Then_ok, then_ok, same_ok}
+use Rattle.sizes_meet_rules.proofs.Fitting.{Gives_type, gives, is_simple, is_wanted, Lambda_says, Function_met, simple_value, met_as, unread_met, each_alone}
+use Rattle.sizes_meet_rules.proofs.Meeting.{Then_ok, then_ok, Asked, asked, same_ok}
 use Rattle.sizes_meet_rules.proofs.Replacing.{hole_as}
 use Rattle.sizes_meet_rules.proofs.Settling.{Is_settled, Any_variable}
 
@@ -55,15 +56,26 @@ pub given_data : (P : Free → Type 0) (Vars : Variable → Type 0) (K : Kinds) 
 given_data P Vars K sub lo [] d = tt
 given_data P Vars K sub lo (g ∷ gs) d = ((d.0.0.0.0, d.0.0.1), given_data P Vars K sub lo gs d.1)
 
--- or one lambda among them
+-- a function whose sized type is known
+pub record Early_function (P : Free → Type 0) (Vars : Variable → Type 0) (sub : Sub) (g : Given) : Type 0 where
+  pub waits : g.waits ≡ None
+  pub is_fun : is_function g.size ≡ true
+  pub says : Lambda_says P Vars 0 g.size
+  pub typed : erased g.size ≡ sub g.node
+  pub from : Ty
+  pub to : Ty
+  pub function : sub g.node ≡ fun_ty from to
+
+-- or one function among them: a lambda, or one whose sized type is known
 abbrev pub One_given : (Free → Type 0) → (Variable → Type 0) → Kinds → Sub → Type 0 → State → State → List Given → Type 0
 One_given P Vars K sub Went st after [] = ⊥
-One_given P Vars K sub Went st after (g ∷ gs) = (Data_given P Vars K sub g × One_given P Vars K sub Went st after gs) ⊎ (((F : Waiting_fit P Vars K Went st after g) × (F.type ≡ sub g.node) × ((a : Ty) × ((c : Ty) × (F.type ≡ fun_ty a c)))) × All_data_given P Vars K sub gs)
+One_given P Vars K sub Went st after (g ∷ gs) = (Data_given P Vars K sub g × One_given P Vars K sub Went st after gs) ⊎ ((((F : Waiting_fit P Vars K Went st after g) × (F.type ≡ sub g.node) × ((a : Ty) × ((c : Ty) × (F.type ≡ fun_ty a c)))) × All_data_given P Vars K sub gs) ⊎ ((Went × (after ≡ st)) × Early_function P Vars sub g × All_data_given P Vars K sub gs))
 
 pub one_kinds : (P : Free → Type 0) (Vars : Variable → Type 0) (K : Kinds) (sub : Sub) (Went : Type 0) (st after : State) (gs : List Given) → One_given P Vars K sub Went st after gs → All_kinds gs
 one_kinds P Vars K sub Went st after [] d = tt
-one_kinds P Vars K sub Went st after (g ∷ gs) (inl d) = (inl (d.0.0.0.0, d.0.0.1), one_kinds P Vars K sub Went st after gs d.1)
-one_kinds P Vars K sub Went st after (g ∷ gs) (inr d) = (inr d.0.0.given, kinds_of_data 0 gs (given_data P Vars K sub 0 gs d.1))
+one_kinds P Vars K sub Went st after (g ∷ gs) (inl d) = (inl d.0.0.1, one_kinds P Vars K sub Went st after gs d.1)
+one_kinds P Vars K sub Went st after (g ∷ gs) (inr (inr d)) = (inl d.1.waits, kinds_of_data 0 gs (given_data P Vars K sub 0 gs d.2))
+one_kinds P Vars K sub Went st after (g ∷ gs) (inr (inl d)) = (inr d.0.0.given, kinds_of_data 0 gs (given_data P Vars K sub 0 gs d.1))
 
 -- each argument is data, or has the parameter's sized type
 abbrev pub Kinds_taken : (Free → Type 0) → (Variable → Type 0) → Kinds → Sub → List Given → Size → Type 0
@@ -80,15 +92,15 @@ module _ (P : Free → Type 0) (Vars : Variable → Type 0) (K : Kinds) (sub : S
   data_kinds (g ∷ gs) (Built h ts) d = tt
 
   -- so they are taken
-  pub kinds_take : (gs : List Given) (t : Size) (u : Ty) → Formed t → erased t ≡ arrows_of sub gs u → 1 ≤ rank K u → Kinds_taken P Vars K sub gs t → Takes_all gs t
+  pub kinds_take : (gs : List Given) (t : Size) (u : Ty) → Formed t → erased t ≡ arrows_of sub gs u → Gives_type K u → Kinds_taken P Vars K sub gs t → Takes_all gs t
   unfolding Formed
-  kinds_take [] t u f e k1 k = data_of K t f (subst (λ w. 1 ≤ rank K w) (sym e) k1)
+  kinds_take [] t u f e k1 k = gives K t f (subst (Gives_type K) (sym e) k1)
   kinds_take (g ∷ gs) t u f e k1 k = subst (Takes_all (g ∷ gs)) (sym W.is_function) (by_kind kinds.0, kinds_take gs W.to u parts.1 W.to_typed k1 kinds.1)
     where
       W : Function_size t (sub g.node) (arrows_of sub gs u)
       W = function_is t (sub g.node) (arrows_of sub gs u) f e
 
-      parts : Formed W.from × Formed W.to × Each (Of_positions (λ i. i < W.chosen)) 1 W.from × (is_i64_size W.from ≡ false → Each (Of_positions (λ i. i ≡ W.chosen → ⊥)) 1 W.to)
+      parts : Formed W.from × Formed W.to × Each (Of_positions (λ i. i < W.chosen)) 1 W.from × (is_i64_size W.from ≡ false → Each (Of_positions (λ i. i ≡ W.chosen → ⊥)) 1 W.to) × (No_sizes W.from → W.chosen ≡ 0)
       parts = subst Formed W.is_function f
 
       kinds : (Data_given P Vars K sub g ⊎ Function_taken W.from g.size) × Kinds_taken P Vars K sub gs W.to
@@ -144,7 +156,7 @@ module _ (n : ℕ) (types : Variable → Ty) (P : Free → Type 0) (settled : (d
     wants (Open m v u) j w i k = absurd i
     wants (Level d x) j w i k = absurd (let z : false ≡ true = w in cc)
 
-  -- ---- one lambda among arguments of data
+  -- ---- one function among arguments of data
 
   module _ (sub : Sub) (Went : Type 0) (st after : State) where
     module _ (lo : ℕ) (q : Variable → Bool) (regular : Bool) where
@@ -156,8 +168,19 @@ module _ (n : ℕ) (types : Variable → Ty) (P : Free → Type 0) (settled : (d
         pub kinds : Each_hole (λ v. 1 ≤ rank K (types v)) p
         pub typed : erased (Opened_type p) ≡ fit.type
 
+      -- or a function whose sized type is known
+      pub record Early_there (g : Given) (p : Size) : Type 0 where
+        pub went : Went
+        pub state : after ≡ st
+        pub function : Early_function P Vars sub g
+        pub wanted : is_wanted q (λ v. regular) p ≡ true
+        pub arrow : is_arrow p ≡ true
+        pub inferred : Each_hole Is_inferred p
+        pub kinds : Each_hole (λ v. 1 ≤ rank K (types v)) p
+        pub typed : erased (Opened_type p) ≡ sub g.node
+
       abbrev pub One_lambda : List Given → Size → Type 0
-      One_lambda (g ∷ gs) (Fun k p r) = (Data_given P Vars K sub g × (is_arrow p ≡ false) × One_lambda gs r) ⊎ (Lambda_there g p × All_data_given P Vars K sub gs × ((v : Variable) → lambda_holes r v ≡ false))
+      One_lambda (g ∷ gs) (Fun k p r) = (Data_given P Vars K sub g × (is_arrow p ≡ false) × One_lambda gs r) ⊎ ((Lambda_there g p × All_data_given P Vars K sub gs × ((v : Variable) → lambda_holes r v ≡ false)) ⊎ (Early_there g p × All_data_given P Vars K sub gs × ((v : Variable) → lambda_holes r v ≡ false)))
       One_lambda gs t = ⊥
 
       pub record Lambda_met (gs : List Given) (t : Size) (before : Found) (d : Done Found) : Type 0 where
@@ -171,6 +194,21 @@ module _ (n : ℕ) (types : Variable → Ty) (P : Free → Type 0) (settled : (d
         pub taken : (v : Variable) → lambda_holes t v ≡ true → Taken_here d.result v
         pub is : (Θ : Variable → Size) → Agrees n types P settled Vars Θ d.result → Kinds_taken P Vars K sub gs (with_types Θ t)
 
+      of_function : (p r : Size) → is_arrow p ≡ true → ((v : Variable) → lambda_holes r v ≡ false) → (v : Variable) → (is_arrow p && function_holes p v) || lambda_holes r v ≡ true → function_holes p v ≡ true
+      of_function p r arrow none_rest v y = by_place (function_holes p v) (ap (λ b. (b && function_holes p v) || lambda_holes r v) (sym arrow) ∙ y)
+        where
+          by_place : (b : Bool) → b || lambda_holes r v ≡ true → b ≡ true
+          by_place true z = refl
+          by_place false z = absurd (let w : true ≡ false = sym z ∙ none_rest v in cc)
+
+      function_taken : (p : Size) (g : Given) (σ τ : Found) (M : Function_met n types P settled Vars K σ τ p g.size) → is_function g.size ≡ true → Lambda_says P Vars 0 g.size → (Θ : Variable → Size) → Agrees n types P settled Vars Θ τ → Function_taken (with_types Θ p) g.size
+      function_taken p g σ τ M is_fun says Θ a = record {
+        same = M.is Θ a;
+        is_fun = is_fun;
+        alone = subst (Each (Alone Is_settled) 0) (sym (M.is Θ a)) (each_alone P Is_settled settled g.size 0 M.alone);
+        closed = subst (Each_hole Any_variable) (sym (M.is Θ a)) (hole_as Vars Any_variable (λ v k. tt) g.size says.variables);
+      }
+
       lambda_met : (g : Given) (gs : List Given) (φ : Opened) (k : ℕ) (p r : Size) (σ before : Found) (d : Done Found) → Lambda_there g p → All_data_given P Vars K sub gs → ((v : Variable) → lambda_holes r v ≡ false) → Has_arrows gs (Opened_type r) → Taking n types P settled Vars before → ((v : Variable) → q v ≡ true → Taken_here before v)
           → functions_met regular (given_wants lo (g ∷ gs) φ (Opened_type (Fun k p r)) σ) before st ≡ Ok d → Lambda_met (g ∷ gs) (Fun k p r) before d
       unfolding instance with_types lambda_holes
@@ -182,8 +220,8 @@ module _ (n : ℕ) (types : Variable → Ty) (P : Free → Type 0) (settled : (d
         size = ap (λ (y : Found). y.size) (sym found_is) ∙ M.size;
         later = subst (λ (y : Found). before.next ≤ y.next) found_is M.later;
         makers = λ i l. ap (λ (y : Found). y.maker i) (sym found_is) ∙ ap (λ (f : ℕ → ℕ). f i) M.maker ∙ kept_maker lo (here lo gs) before i l;
-        taken = λ v y. subst (λ (z : Found). Taken_here z v) found_is (M.here v (of_lambda v y));
-        is = λ Θ a. (inr (taken_by Θ (subst (Agrees n types P settled Vars Θ) (sym found_is) a)), data_kinds P Vars K sub gs (with_types Θ r) data_rest);
+        taken = λ v y. subst (λ (z : Found). Taken_here z v) found_is (M.here v (of_function p r L.arrow none_rest v y));
+        is = λ Θ a. (inr (function_taken p g (made_at (here lo gs) before) x2.first.result.found M L.fit.given.is_fun result.says Θ (subst (Agrees n types P settled Vars Θ) (sym found_is) a)), data_kinds P Vars K sub gs (with_types Θ r) data_rest);
       }
         where
           ψ : Opened
@@ -226,20 +264,49 @@ module _ (n : ℕ) (types : Variable → Ty) (P : Free → Type 0) (settled : (d
           found_is : x2.first.result.found ≡ d.result
           found_is = ap (λ (y : Done Found). y.result) last
 
-          of_lambda : (v : Variable) → (is_arrow p && function_holes p v) || lambda_holes r v ≡ true → function_holes p v ≡ true
-          of_lambda v y = by_place (function_holes p v) (ap (λ b. (b && function_holes p v) || lambda_holes r v) (sym L.arrow) ∙ y)
-            where
-              by_place : (b : Bool) → b || lambda_holes r v ≡ true → b ≡ true
-              by_place true z = refl
-              by_place false z = absurd (let w : true ≡ false = sym z ∙ none_rest v in cc)
+      early_met : (g : Given) (gs : List Given) (φ : Opened) (k : ℕ) (p r : Size) (σ before : Found) (d : Done Found) → Early_there g p → All_data_given P Vars K sub gs → ((v : Variable) → lambda_holes r v ≡ false) → Has_arrows gs (Opened_type r) → Taking n types P settled Vars before → ((v : Variable) → q v ≡ true → Taken_here before v)
+          → functions_met regular (given_wants lo (g ∷ gs) φ (Opened_type (Fun k p r)) σ) before st ≡ Ok d → Lambda_met (g ∷ gs) (Fun k p r) before d
+      unfolding instance with_types lambda_holes
+      early_met g gs φ k p r σ before d L data_rest none_rest arrows taking taken e = record {
+        went = L.went;
+        state = ap (λ (y : Done Found). y.state) (sym last) ∙ a1.state ∙ sym L.state;
+        taking = subst (Taking n types P settled Vars) found_is M.taking;
+        stays = subst (Stays n types P settled Vars before) found_is M.stays;
+        size = ap (λ (y : Found). y.size) (sym found_is) ∙ M.size;
+        later = subst (λ (y : Found). before.next ≤ y.next) found_is M.later;
+        makers = λ i l. ap (λ (y : Found). y.maker i) (sym found_is) ∙ ap (λ (f : ℕ → ℕ). f i) M.maker ∙ kept_maker lo (here lo gs) before i l;
+        taken = λ v y. subst (λ (z : Found). Taken_here z v) found_is (M.here v (of_function p r L.arrow none_rest v y));
+        is = λ Θ a. (inr (function_taken p g (made_at (here lo gs) before) x1.first.result M L.function.is_fun L.function.says Θ (subst (Agrees n types P settled Vars Θ) (sym found_is) a)), data_kinds P Vars K sub gs (with_types Θ r) data_rest);
+      }
+        where
+          ψ : Opened
+          ψ = opened_by lo gs g σ k φ
 
-          taken_by : (Θ : Variable → Size) → Agrees n types P settled Vars Θ x2.first.result.found → Function_taken (with_types Θ p) g.size
-          taken_by Θ a = record {
-            same = M.is Θ a;
-            is_fun = L.fit.given.is_fun;
-            alone = subst (Each (Alone Is_settled) 0) (sym (M.is Θ a)) (each_alone P Is_settled settled g.size 0 M.alone);
-            closed = subst (Each_hole Any_variable) (sym (M.is Θ a)) (hole_as Vars Any_variable (λ v k. tt) g.size result.says.variables);
-          }
+          rest : Found → Step Found
+          rest found = functions_met regular (given_wants lo gs ψ (Opened_type r) (found_after lo gs g σ k)) found
+
+          matched : Answer Found
+          matched = meet (here lo gs) (function_way regular) g.node ψ (Opened_type p) none_opened g.size (made_at (here lo gs) before)
+
+          now : and_then (ask matched) rest st ≡ Ok d
+          now = sym (function_step lo regular gs ψ (Opened_type p) (argument_by g.waits g) (given_wants lo gs ψ (Opened_type r) (found_after lo gs g σ k)) before st ∙ ap (λ o. and_then (one_function lo regular gs ψ (Opened_type p) (argument_by o g) before) rest st) L.function.waits
+              ∙ ap (λ b. and_then (cond b (ask matched) (give before)) rest st) L.function.is_fun) ∙ e
+
+          x1 : Then_ok (ask matched st) (λ y. rest y.result y.state) d
+          x1 = then_ok (ask matched st) now
+
+          a1 : Asked matched st x1.first
+          a1 = asked matched st x1.first x1.done
+
+          M : Function_met n types P settled Vars K (made_at (here lo gs) before) x1.first.result p g.size
+          M = unread_met n types P settled Vars K q regular (here lo gs) g.node p false ψ none_opened 0 g.size (made_at (here lo gs) before) x1.first.result L.wanted L.inferred L.kinds L.function.says (L.function.typed ∙ sym L.typed) taking taken
+              (λ j m l. absurd (omega (arith, l))) (λ z. absurd (let y : true ≡ false = sym L.arrow ∙ z in cc)) a1.answer
+
+          last : record { result = x1.first.result; state = x1.first.state } ≡ d
+          last = same_ok (sym (no_function_met lo regular gs ψ (Opened_type r) (found_after lo gs g σ k) arrows (given_data P Vars K sub lo gs data_rest) x1.first.result x1.first.state) ∙ x1.rest)
+
+          found_is : x1.first.result ≡ d.result
+          found_is = ap (λ (y : Done Found). y.result) last
 
       pub lambda_ran : (gs : List Given) (φ : Opened) (t : Size) (σ before : Found) (d : Done Found) → One_lambda gs t → Has_arrows gs (Opened_type t) → Taking n types P settled Vars before → ((v : Variable) → q v ≡ true → Taken_here before v) → functions_met regular (given_wants lo gs φ (Opened_type t) σ) before st ≡ Ok d → Lambda_met gs t before d
       unfolding instance with_types lambda_holes
@@ -257,7 +324,8 @@ module _ (n : ℕ) (types : Variable → Ty) (P : Free → Type 0) (settled : (d
             taken = λ v y. R.taken v (ap (λ b. (b && function_holes p v) || lambda_holes r v) (sym o.1) ∙ y);
             is = λ Θ a. (inl o.0, R.is Θ a);
           }
-      lambda_ran (g ∷ gs) φ (Fun k p r) σ before d (inr o) arrows taking taken e = lambda_met g gs φ k p r σ before d o.0 o.1 o.2 arrows.1 taking taken e
+      lambda_ran (g ∷ gs) φ (Fun k p r) σ before d (inr (inl o)) arrows taking taken e = lambda_met g gs φ k p r σ before d o.0 o.1 o.2 arrows.1 taking taken e
+      lambda_ran (g ∷ gs) φ (Fun k p r) σ before d (inr (inr o)) arrows taking taken e = early_met g gs φ k p r σ before d o.0 o.1 o.2 arrows.1 taking taken e
       lambda_ran (g ∷ gs) φ (Hole v) σ before d o arrows taking taken e = absurd o
       lambda_ran (g ∷ gs) φ (Open m v u) σ before d o arrows taking taken e = absurd o
       lambda_ran (g ∷ gs) φ (Level x t) σ before d o arrows taking taken e = absurd o

@@ -8,7 +8,7 @@ use Rattle.fut_flat.specs.Terms.{Patterns, no_pattern, pattern_and, Use, Strict,
 use Rattle.fut_flat.specs.Erased.{FlatTerm}
 use Rattle.fut_types.specs.declared.Head.TheVariants as head
 use Rattle.fut_types.specs.declared.Kind.{Kind}
-use Rattle.fut_types.specs.Types.{Ty, fun_ty, Sub, Kinds, rank, least, level}
+use Rattle.fut_types.specs.Types.{Ty, Made, more, none, fun_ty, Sub, Kinds, HasKind, rank, least, level}
 use Rattle.fut_typing.specs.Names.{Names}
 use Rattle.fut_typing.specs.Patterns.{pattern_types, arrows}
 use Rattle.sized_types.specs.Sizes.{Free, Variable, Size, Hole, Open, Level, Built, Fun, no_size, erased, all_erased}
@@ -18,17 +18,22 @@ use Rattle.fut_sizes.specs.Matching.{Found, nothing_found, none_opened, function
 use Rattle.fut_sizes.specs.Scopes.{Scope}
 use Rattle.fut_sizes.specs.Steps.{State, Done, Step}
 use Rattle.sizes_meet_rules.specs.Known.{Formed, Elsewhere}
-use Rattle.sizes_meet_rules.specs.Plain.{Flat_type, Flat_parameters, Lambda_flat, Plain_lambda}
+use Rattle.sizes_meet_rules.specs.Plain.{Flat_type, Flat_function, Is_lambda}
 use Rattle.sizes_meet_rules.proofs.Applying.{Function_size, function_is, Value_known}
 use Rattle.sizes_meet_rules.proofs.Chains.{Given, argument_by, arguments, arrows_of, Widths}
-use Rattle.sizes_meet_rules.proofs.Fitting.{Plain_arrows}
+use Rattle.sizes_meet_rules.proofs.Fitting.{plain_arrows}
 use Rattle.sizes_meet_rules.proofs.Flat_types.{flat, flat_is}
-use Rattle.sizes_meet_rules.proofs.Lambdas.{One_given, Waiting_fit, Lambda_result, Wants_formed}
-use Rattle.sizes_meet_rules.proofs.Meeting.{each_scoped, With_met, met_wider, Chooses_none, Flat_wanted, Lambda_wanted, Lambda_typed, Lambda_chooses_none, As_alone, Meets, inner_of}
+use Rattle.sizes_meet_rules.proofs.Lambdas.{Early_function, One_given, Waiting_fit, Lambda_result, Wants_formed}
+use Rattle.sizes_meet_rules.proofs.Meeting.{each_scoped, With_met, met_wider, Flat_wanted, Lambda_wanted, Lambda_typed, As_alone, Meets, inner_of}
 use Rattle.sizes_meet_rules.proofs.Noting.{Placed, placed_order}
-use Rattle.sizes_meet_rules.proofs.Parts.{spine, Given_meets, Lambda_waits, All_given, One_waits, All_parts, Later_part, one_fit, all_fit}
+use Rattle.sizes_meet_rules.proofs.Parts.{spine, Given_meets, Function_meets, given_in, Lambda_waits, All_given, One_waits, All_parts, Later_part, one_fit, all_fit}
 
 -- ---- functions of these parameters
+
+-- none of which has arrays
+abbrev Flat_parameters : Sub → Patterns Ref BindId → ℕ → Type 0
+Flat_parameters types no_pattern q = Unit {0}
+Flat_parameters types (pattern_and p ps) q = Flat_type (types q) × Flat_parameters types ps (q + pattern_numbers p)
 
 module _ (K : Kinds) where
   no_function : (a b : Ty) → 1 ≤ rank K (fun_ty a b) → ⊥
@@ -46,22 +51,6 @@ module _ (K : Kinds) where
   flat_wants types (pattern_and p ps) q (Hole v) u f e h = absurd (let W = function_is (Hole v) (types q) (arrows (pattern_types types ps (q + pattern_numbers p)) u) f e in let z : Hole v ≡ Fun W.chosen W.from W.to = W.is_function in cc)
   flat_wants types (pattern_and p ps) q (Level d t) u f e h = absurd (let W = function_is (Level d t) (types q) (arrows (pattern_types types ps (q + pattern_numbers p)) u) f e in let z : Level d t ≡ Fun W.chosen W.from W.to = W.is_function in cc)
   flat_wants types (pattern_and p ps) q (Built k ts) u f e h = absurd (let W = function_is (Built k ts) (types q) (arrows (pattern_types types ps (q + pattern_numbers p)) u) f e in let z : Built k ts ≡ Fun W.chosen W.from W.to = W.is_function in cc)
-
-  plain_arrows : (types : Sub) (ps : Patterns Ref BindId) (q : ℕ) (t : Size) (u : Ty) → Chooses_none ps t → Formed t → erased t ≡ arrows (pattern_types types ps q) u → Flat_parameters types ps q → 1 ≤ rank K u → Plain_arrows t
-  unfolding erased all_erased Formed
-  plain_arrows types no_pattern q (Hole v) u c f e h k = tt
-  plain_arrows types no_pattern q (Open m v w) u c f e h k = absurd f
-  plain_arrows types no_pattern q (Level d t) u c f e h k = tt
-  plain_arrows types no_pattern q (Built b ts) u c f e h k = tt
-  plain_arrows types no_pattern q (Fun l x r) u c f e h k = absurd (no_function (erased x) (erased r) (subst (λ w. 1 ≤ rank K w) (sym e) k))
-  plain_arrows types (pattern_and p ps) q (Fun zero x r) u c f e h k =
-      let y : fun_ty (erased x) (erased r) ≡ fun_ty (types q) (arrows (pattern_types types ps (q + pattern_numbers p)) u) = e in
-      (subst Flat_type (let z : types q ≡ erased x = cc in z) h.0, plain_arrows types ps (q + pattern_numbers p) r u c f.1 (let z : erased r ≡ arrows (pattern_types types ps (q + pattern_numbers p)) u = cc in z) h.1 k)
-  plain_arrows types (pattern_and p ps) q (Fun (suc l) x r) u c f e h k = absurd c
-  plain_arrows types (pattern_and p ps) q (Hole v) u c f e h k = absurd c
-  plain_arrows types (pattern_and p ps) q (Open m v w) u c f e h k = absurd c
-  plain_arrows types (pattern_and p ps) q (Level d t) u c f e h k = absurd c
-  plain_arrows types (pattern_and p ps) q (Built b ts) u c f e h k = absurd c
 
 -- ---- what a lambda gives by itself, if it is not refused
 
@@ -90,44 +79,29 @@ module _ (N : Names) (types : Sub) (home : ℕ → ℕ) (K : Kinds) (places : Ki
   One_there gs st A = One_waits N types home K places data_places In Vars scope gs st A
 
   -- of a lambda: what is known of its term
-  lambda_kinds : (e : FlatTerm) (n : ℕ) (t : Size) → Plain_lambda types home K places e n → Lambda_typed types e n → Wants_formed K t → erased t ≡ types n → Lambda_wanted types e n t
-  lambda_kinds (Lambda (pattern_and p ps) e) n t pl ty f z = flat_wants K types (pattern_and p ps) (1 + n) t (types (1 + n + all_pattern_numbers (pattern_and p ps))) f (z ∙ ty) pl.0
-  lambda_kinds (Lambda no_pattern e) n t pl ty f z = absurd pl
-  lambda_kinds (Use r at k) n t pl ty f z = absurd pl
-  lambda_kinds (Strict o mark ts) n t pl ty f z = absurd pl
-  lambda_kinds (Apply f e) n t pl ty g z = absurd pl
-  lambda_kinds (Let b v e) n t pl ty f z = absurd pl
-  lambda_kinds (If c a b) n t pl ty f z = absurd pl
-  lambda_kinds (Loop mark sizes p first turns body) n t pl ty f z = absurd pl
+  flat_parameters : (ps : Patterns Ref BindId) (q : ℕ) (u : Ty) → HasKind K places (arrows (pattern_types types ps q) u) ⊎ Flat_function types home K places (arrows (pattern_types types ps q) u) → Flat_parameters types ps q
+  flat_parameters no_pattern q u o = tt
+  flat_parameters (pattern_and p ps) q u (inl k) = absurd (no_function K (types q) (arrows (pattern_types types ps (q + pattern_numbers p)) u) (omega (arith, data_places, k)))
+  flat_parameters (pattern_and p ps) q u (inr h) = (h.0, flat_parameters ps (q + pattern_numbers p) u h.1)
 
-  lambda_arrows : (e : FlatTerm) (n : ℕ) (t : Size) → Plain_lambda types home K places e n → Lambda_typed types e n → Lambda_chooses_none e t → Formed t → erased t ≡ types n → Plain_arrows t
-  lambda_arrows (Lambda (pattern_and p ps) e) n t pl ty c f z = plain_arrows K types (pattern_and p ps) (1 + n) t (types (1 + n + all_pattern_numbers (pattern_and p ps))) c f (z ∙ ty) pl.0 (let k = pl.1 in omega (arith, data_places, k))
-  lambda_arrows (Lambda no_pattern e) n t pl ty c f z = absurd pl
-  lambda_arrows (Use r at k) n t pl ty c f z = absurd pl
-  lambda_arrows (Strict o mark ts) n t pl ty c f z = absurd pl
-  lambda_arrows (Apply f e) n t pl ty c g z = absurd pl
-  lambda_arrows (Let b v e) n t pl ty c f z = absurd pl
-  lambda_arrows (If c a b) n t pl ty d f z = absurd pl
-  lambda_arrows (Loop mark sizes p first turns body) n t pl ty c f z = absurd pl
+  lambda_kinds : (e : FlatTerm) (n : ℕ) (t : Size) → Is_lambda e → Flat_function types home K places (types n) → Lambda_typed types e n → Wants_formed K t → erased t ≡ types n → Lambda_wanted types e n t
+  lambda_kinds (Lambda (pattern_and p ps) e) n t i fl ty f z = flat_wants K types (pattern_and p ps) (1 + n) t (types (1 + n + all_pattern_numbers (pattern_and p ps))) f (z ∙ ty) (flat_parameters (pattern_and p ps) (1 + n) (types (1 + n + all_pattern_numbers (pattern_and p ps))) (inr (subst (Flat_function types home K places) ty fl)))
+  lambda_kinds (Lambda no_pattern e) n t i fl ty f z = absurd i
+  lambda_kinds (Use r at k) n t i fl ty f z = absurd i
+  lambda_kinds (Strict o mark ts) n t i fl ty f z = absurd i
+  lambda_kinds (Apply f e) n t i fl ty g z = absurd i
+  lambda_kinds (Let b v e) n t i fl ty f z = absurd i
+  lambda_kinds (If c a b) n t i fl ty f z = absurd i
+  lambda_kinds (Loop mark sizes p first turns body) n t i fl ty f z = absurd i
 
-  lambda_flat : (e : FlatTerm) (n : ℕ) → Plain_lambda types home K places e n → Lambda_flat types e n
-  lambda_flat (Lambda (pattern_and p ps) e) n pl = pl.0
-  lambda_flat (Lambda no_pattern e) n pl = absurd pl
-  lambda_flat (Use r at k) n pl = absurd pl
-  lambda_flat (Strict o mark ts) n pl = absurd pl
-  lambda_flat (Apply f e) n pl = absurd pl
-  lambda_flat (Let b v e) n pl = absurd pl
-  lambda_flat (If c a b) n pl = absurd pl
-  lambda_flat (Loop mark sizes p first turns body) n pl = absurd pl
-
-  lambda_argument : (e : FlatTerm) (n : ℕ) (t : Ty) → Plain_lambda types home K places e n → Value_known N types home K places data_places In Vars scope e t
-  lambda_argument (Lambda ps e) n t pl = tt
-  lambda_argument (Use r at k) n t pl = absurd pl
-  lambda_argument (Strict o mark ts) n t pl = absurd pl
-  lambda_argument (Apply f e) n t pl = tt
-  lambda_argument (Let b v e) n t pl = tt
-  lambda_argument (If c a b) n t pl = tt
-  lambda_argument (Loop mark sizes p first turns body) n t pl = tt
+  lambda_argument : (e : FlatTerm) (t : Ty) → Is_lambda e → Value_known N types home K places data_places In Vars scope e t
+  lambda_argument (Lambda ps e) t i = tt
+  lambda_argument (Use r at k) t i = absurd i
+  lambda_argument (Strict o mark ts) t i = absurd i
+  lambda_argument (Apply f e) t i = absurd i
+  lambda_argument (Let b v e) t i = absurd i
+  lambda_argument (If c a b) t i = absurd i
+  lambda_argument (Loop mark sizes p first turns body) t i = absurd i
 
   -- ---- one lambda
 
@@ -154,7 +128,7 @@ module _ (N : Names) (types : Sub) (home : ℕ → ℕ) (K : Kinds) (places : Ki
     given_meets : (m : Done Met) → alone ≡ Ok m → Given_meets N types home K places data_places In Vars scope now_sized A behind
     given_meets m e =
         let M = meets_alone m e in
-        let known = lambda_argument g.term g.node (types g.node) L.plain in
+        let known = lambda_argument g.term (types g.node) L.waits.is_lambda in
         record { value_is = inl L.value; inner = inner_of N types home In Vars scope g.term g.node (g.node + numbers g.term) A (own_size alone) behind M; noted = λ z. M.here; value_known = known }
 
     own_function : is_function (own_size alone) ≡ true
@@ -173,7 +147,7 @@ module _ (N : Names) (types : Sub) (home : ℕ → ℕ) (K : Kinds) (places : Ki
         record {
           given = record { waiting = waiting; waits = L.waits_is; value = L.value; named = L.named; is_fun = own_function };
           type = types g.node;
-          run = λ w σ m f e q. result w σ m (L.waits.as_wanted w σ A m (lambda_kinds g.term g.node w.size L.plain L.waits.typed_as f e) q);
+          run = λ w σ m f e q. result w σ m (L.waits.as_wanted w σ A m (lambda_kinds g.term g.node w.size L.waits.is_lambda L.flat L.waits.typed_as f e) q);
         },
         refl,
         L.waits.of_function,
@@ -190,7 +164,7 @@ module _ (N : Names) (types : Sub) (home : ℕ → ℕ) (K : Kinds) (places : Ki
                   formed = M.says.formed;
                   sizes = each_scoped (With_met In g.node (g.node + numbers g.term)) P wide (own_size alone) 0 M.says.sizes;
                   variables = M.says.variables;
-                  arrows = lambda_arrows g.term g.node (own_size alone) L.plain L.waits.typed_as (subst (Lambda_chooses_none g.term) (sym (ap own_size S.ran)) (L.waits.chooses_none A S.alone S.ran (lambda_flat g.term g.node L.plain))) M.says.formed M.typed;
+                  arrows = plain_arrows types home K places data_places (own_size alone) M.says.formed (inr (subst (Flat_function types home K places) (sym M.typed) L.flat));
                 };
                 typed = M.typed;
                 met = ap (λ t. meet w.node (function_way w.is_regular) g.node none_opened w.size none_opened t σ) size_is ∙ S.met;
@@ -201,37 +175,44 @@ module _ (N : Names) (types : Sub) (home : ℕ → ℕ) (K : Kinds) (places : Ki
   abbrev pub sized_by : (gs : List Given) (st A : State) → One_there gs st A → List Given
   sized_by [] st A h = []
   sized_by (g ∷ gs) st A (inl h) = g ∷ sized_by gs h.0 A h.1.1
-  sized_by (g ∷ gs) st A (inr h) = now_sized g h.0 A ∷ gs
+  sized_by (g ∷ gs) st A (inr (inl h)) = now_sized g h.0 A ∷ gs
+  sized_by (g ∷ gs) st A (inr (inr h)) = g ∷ gs
 
   abbrev pub state_by : (gs : List Given) (st A : State) → One_there gs st A → State
   state_by [] st A h = A
   state_by (g ∷ gs) st A (inl h) = state_by gs h.0 A h.1.1
-  state_by (g ∷ gs) st A (inr h) = behind g h.0 A
+  state_by (g ∷ gs) st A (inr (inl h)) = behind g h.0 A
+  state_by (g ∷ gs) st A (inr (inr h)) = A
 
   abbrev pub Went_by : (gs : List Given) (st A : State) → One_there gs st A → Type 0
   Went_by [] st A h = Unit {0}
   Went_by (g ∷ gs) st A (inl h) = Went_by gs h.0 A h.1.1
-  Went_by (g ∷ gs) st A (inr h) = Went_alone g h.0 A
+  Went_by (g ∷ gs) st A (inr (inl h)) = Went_alone g h.0 A
+  Went_by (g ∷ gs) st A (inr (inr h)) = Unit {0}
 
   pub sized_arguments : (gs : List Given) (st A : State) (h : One_there gs st A) → arguments (sized_by gs st A h) ≡ arguments gs
   sized_arguments [] st A h = refl
   sized_arguments (g ∷ gs) st A (inl h) = ap (λ xs. argument_by g.waits g ∷ xs) (sized_arguments gs h.0 A h.1.1)
-  sized_arguments (g ∷ gs) st A (inr h) = ap (λ x. x ∷ arguments gs) (with_argument g (own_size (h.0.waits.waiting None nothing_found A)) h.0.waits.waiting h.0.waits_is)
+  sized_arguments (g ∷ gs) st A (inr (inr h)) = refl
+  sized_arguments (g ∷ gs) st A (inr (inl h)) = ap (λ x. x ∷ arguments gs) (with_argument g (own_size (h.0.waits.waiting None nothing_found A)) h.0.waits.waiting h.0.waits_is)
 
   pub sized_arrows : (gs : List Given) (st A : State) (h : One_there gs st A) (u : Ty) → arrows_of types (sized_by gs st A h) u ≡ arrows_of types gs u
   sized_arrows [] st A h u = refl
   sized_arrows (g ∷ gs) st A (inl h) u = ap (fun_ty (types g.node)) (sized_arrows gs h.0 A h.1.1 u)
-  sized_arrows (g ∷ gs) st A (inr h) u = refl
+  sized_arrows (g ∷ gs) st A (inr (inl h)) u = refl
+  sized_arrows (g ∷ gs) st A (inr (inr h)) u = refl
 
   pub sized_spine : (f : FlatTerm) (gs : List Given) (st A : State) (h : One_there gs st A) → spine f (sized_by gs st A h) ≡ spine f gs
   sized_spine f [] st A h = refl
   sized_spine f (g ∷ gs) st A (inl h) = sized_spine (Apply f g.term) gs h.0 A h.1.1
-  sized_spine f (g ∷ gs) st A (inr h) = refl
+  sized_spine f (g ∷ gs) st A (inr (inl h)) = refl
+  sized_spine f (g ∷ gs) st A (inr (inr h)) = refl
 
   pub sized_placed : (gs : List Given) (st A : State) (h : One_there gs st A) (from hi : ℕ) → Placed gs from hi → Placed (sized_by gs st A h) from hi
   sized_placed [] st A h from hi p = p
   sized_placed (g ∷ gs) st A (inl h) from hi p = (p.0, sized_placed gs h.0 A h.1.1 (from + numbers g.term) hi p.1)
-  sized_placed (g ∷ gs) st A (inr h) from hi p = p
+  sized_placed (g ∷ gs) st A (inr (inl h)) from hi p = p
+  sized_placed (g ∷ gs) st A (inr (inr h)) from hi p = p
 
   pub sized_widths : (gs : List Given) (st A : State) (h : One_there gs st A) (t : Size) → Widths gs t → Widths (sized_by gs st A h) t
   sized_widths [] st A h t w = w
@@ -240,11 +221,16 @@ module _ (N : Names) (types : Sub) (home : ℕ → ℕ) (K : Kinds) (places : Ki
   sized_widths (g ∷ gs) st A (inl h) (Open m v u) w = tt
   sized_widths (g ∷ gs) st A (inl h) (Level d t) w = tt
   sized_widths (g ∷ gs) st A (inl h) (Built b ts) w = tt
-  sized_widths (g ∷ gs) st A (inr h) (Fun k p r) w = w
-  sized_widths (g ∷ gs) st A (inr h) (Hole v) w = tt
-  sized_widths (g ∷ gs) st A (inr h) (Open m v u) w = tt
-  sized_widths (g ∷ gs) st A (inr h) (Level d t) w = tt
-  sized_widths (g ∷ gs) st A (inr h) (Built b ts) w = tt
+  sized_widths (g ∷ gs) st A (inr (inl h)) (Fun k p r) w = w
+  sized_widths (g ∷ gs) st A (inr (inl h)) (Hole v) w = tt
+  sized_widths (g ∷ gs) st A (inr (inl h)) (Open m v u) w = tt
+  sized_widths (g ∷ gs) st A (inr (inl h)) (Level d t) w = tt
+  sized_widths (g ∷ gs) st A (inr (inl h)) (Built b ts) w = tt
+  sized_widths (g ∷ gs) st A (inr (inr h)) (Fun k p r) w = w
+  sized_widths (g ∷ gs) st A (inr (inr h)) (Hole v) w = tt
+  sized_widths (g ∷ gs) st A (inr (inr h)) (Open m v u) w = tt
+  sized_widths (g ∷ gs) st A (inr (inr h)) (Level d t) w = tt
+  sized_widths (g ∷ gs) st A (inr (inr h)) (Built b ts) w = tt
 
   -- data is sized where it stands
   pub data_parts : (B : State) (A0 : State) (gs : List Given) (st A : State) → Given_there gs st A → All_parts N types home K places data_places In Vars scope A0 B gs st A
@@ -254,7 +240,8 @@ module _ (N : Names) (types : Sub) (home : ℕ → ℕ) (K : Kinds) (places : Ki
   pub one_parts : (gs : List Given) (st A : State) (h : One_there gs st A) → Went_by gs st A h → All_parts N types home K places data_places In Vars scope A (state_by gs st A h) (sized_by gs st A h) st A
   one_parts [] st A h w = absurd h
   one_parts (g ∷ gs) st A (inl h) w = (h.0, (inl (h.1.0.0, h.1.0.1.1), one_parts gs h.0 A h.1.1 w))
-  one_parts (g ∷ gs) st A (inr h) w = (st, (inr (given_meets g h.0 A w.0 w.1, refl), data_parts (behind g h.0 A) A gs st A h.1))
+  one_parts (g ∷ gs) st A (inr (inr h)) w = (h.0, (inl (h.1.0.0, h.1.0.1.1), data_parts A A gs h.0 A h.1.1))
+  one_parts (g ∷ gs) st A (inr (inl h)) w = (st, (inr (given_meets g h.0 A w.0 w.1, refl), data_parts (behind g h.0 A) A gs st A h.1))
 
   -- nothing waits
   pub none_later : (A : State) (gs : List Given) → Later_part N types home K places data_places In Vars scope A A gs
@@ -263,7 +250,8 @@ module _ (N : Names) (types : Sub) (home : ℕ → ℕ) (K : Kinds) (places : Ki
   pub one_later : (gs : List Given) (st A : State) (h : One_there gs st A) → Went_by gs st A h → Later_part N types home K places data_places In Vars scope A (state_by gs st A h) (sized_by gs st A h)
   one_later [] st A h w = absurd h
   one_later (g ∷ gs) st A (inl h) w = let R = one_later gs h.0 A h.1.1 w in record { nodes = λ x o. R.nodes x o.1; dropped = λ x o. R.dropped x o.1 }
-  one_later (g ∷ gs) st A (inr h) w = record { nodes = λ x o. nodes x o.0; dropped = λ x o. dropped x o.0 }
+  one_later (g ∷ gs) st A (inr (inr h)) w = none_later A (g ∷ gs)
+  one_later (g ∷ gs) st A (inr (inl h)) w = record { nodes = λ x o. nodes x o.0; dropped = λ x o. dropped x o.0 }
     where
       M : Meets N types home In Vars scope g.term g.node (g.node + numbers g.term) A (own_size (alone g h.0 A)) (behind g h.0 A)
       M = meets_alone g h.0 A w.0 w.1
@@ -284,10 +272,38 @@ module _ (N : Names) (types : Sub) (home : ℕ → ℕ) (K : Kinds) (places : Ki
     abbrev P : Free → Type 0
     P d = With_met In first hi d
 
+    -- a function of a type without arrays in its parameters
+    flat_arrow : (u : Ty) → Flat_function types home K places u → (a : Ty) × ((c : Ty) × (u ≡ fun_ty a c))
+    flat_arrow (Made head.Fun (more a (more c none))) h = (a, (c, refl))
+    flat_arrow u h = absurd h
+
+    early_fit : (g : Given) (st mid : State) → Function_meets N types home K places data_places In Vars scope g st mid → first ≤ g.node → g.node + numbers g.term ≤ hi → Early_function P Vars types g
+    early_fit g st mid m l l' = record {
+      waits = m.1.1;
+      is_fun = ap is_function S.is_function;
+      says = record {
+        formed = m.0.inner.says.formed;
+        sizes = given_in N types home K places data_places In Vars scope lo first hi E from_lo g st mid m.0 l l';
+        variables = m.0.inner.says.variables;
+        arrows = plain_arrows types home K places data_places g.size m.0.inner.says.formed (inr (subst (Flat_function types home K places) (sym m.0.inner.typed) m.1.0));
+      };
+      typed = m.0.inner.typed;
+      from = F.0;
+      to = F.1.0;
+      function = F.1.1;
+    }
+      where
+        F : (a : Ty) × ((c : Ty) × (types g.node ≡ fun_ty a c))
+        F = flat_arrow (types g.node) m.1.0
+
+        S : Function_size g.size F.0 F.1.0
+        S = function_is g.size F.0 F.1.0 m.0.inner.says.formed (m.0.inner.typed ∙ F.1.1)
+
     pub one_given : (gs : List Given) (st A : State) (from : ℕ) → first ≤ from → Placed gs from hi → (h : One_there gs st A) → (Went_by gs st A h → W) → One_given P Vars K types W A (state_by gs st A h) (sized_by gs st A h)
     one_given [] st A from l p h into = absurd h
     one_given (g ∷ gs) st A from l p (inl h) into = inl (one_fit N types home K places data_places In Vars scope lo first hi E from_lo g st h.0 h.1.0 (let y = p.0 in omega (arith, y, l)) (let y = p.0 in let z = placed_order gs (from + numbers g.term) hi p.1 in omega (arith, y, z)), one_given gs h.0 A (from + numbers g.term) (omega (arith, l)) p.1 h.1.1 into)
-    one_given (g ∷ gs) st A from l p (inr h) into = inr (waiting_fit g h.0 A P wide W into, all_fit N types home K places data_places In Vars scope lo first hi E from_lo gs st A (from + numbers g.term) (omega (arith, l)) p.1 h.1)
+    one_given (g ∷ gs) st A from l p (inr (inr h)) into = inr (inr ((into tt, refl), early_fit g st h.0 h.1.0 (let y = p.0 in omega (arith, y, l)) (let y = p.0 in let z = placed_order gs (from + numbers g.term) hi p.1 in omega (arith, y, z)), all_fit N types home K places data_places In Vars scope lo first hi E from_lo gs h.0 A (from + numbers g.term) (omega (arith, l)) p.1 h.1.1))
+    one_given (g ∷ gs) st A from l p (inr (inl h)) into = inr (inl (waiting_fit g h.0 A P wide W into, all_fit N types home K places data_places In Vars scope lo first hi E from_lo gs st A (from + numbers g.term) (omega (arith, l)) p.1 h.1))
       where
         wide : (d : Free) → With_met In g.node (g.node + numbers g.term) d → P d
         wide d (inl i) = inl i

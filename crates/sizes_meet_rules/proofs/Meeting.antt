@@ -21,7 +21,7 @@ use Rattle.fut_sizes.specs.Sizing.{finished}
 use Rattle.fut_sizes.specs.Steps.{State, Done, Step, ask, at_node}
 use Rattle.fut_sizes.specs.Suiting.{Each, Scoped}
 use Rattle.sizes_meet_rules.specs.Known.{Says, Is_const, Judged, Elsewhere}
-use Rattle.sizes_meet_rules.specs.Plain.{Flat_type, Lambda_flat}
+use Rattle.sizes_meet_rules.specs.Plain.{Flat_type, Is_lambda}
 use Rattle.sizes_meet_rules.proofs.Flat_types.{flat}
 use Rattle.sizes_meet_rules.proofs.Replacing.{each_as, hole_as}
 use Rattle.sizes_meet_rules.proofs.Settling.{Is_settled, Any_variable, Settled, noted, whole_finished}
@@ -121,16 +121,6 @@ pub record As_alone (waiting : Option Want → Found → Step Met) (lo : ℕ) (w
   pub state : alone.state ≡ m.state
   pub met : meet w.node (function_way w.is_regular) lo none_opened w.size none_opened m.result.size σ ≡ Ok m.result.found
 
--- a function of these parameters chooses no sizes
-abbrev pub Chooses_none : Patterns Ref BindId → Size → Type 0
-Chooses_none no_pattern t = Unit {0}
-Chooses_none (pattern_and p ps) (Fun zero q r) = Chooses_none ps r
-Chooses_none ps t = ⊥
-
-abbrev pub Lambda_chooses_none : FlatTerm → Size → Type 0
-Lambda_chooses_none (Lambda ps e) t = Chooses_none ps t
-Lambda_chooses_none e t = ⊥
-
 module _ (types : Sub) where
   -- a function type of these parameters, in which are no arrays
   abbrev pub Flat_wanted : Patterns Ref BindId → ℕ → Size → Type 0
@@ -206,11 +196,11 @@ module _ (N : Names) (types : Sub) (home : ℕ → ℕ) where
       pub is_waiting : part ≡ Waiting waiting
       pub unchanged : after ≡ st
       pub of_function : (p : Ty) × ((r : Ty) × (types lo ≡ fun_ty p r))
+      pub is_lambda : Is_lambda e
       pub typed_as : Lambda_typed types e lo
       pub known_sizes : (before : State) (m : Done Met) → waiting None nothing_found before ≡ Ok m → Each (Scoped (λ d. In d ⊎ Is_const d)) 0 m.result.size
       pub by_itself : (before : State) (m : Done Met) → waiting None nothing_found before ≡ Ok m → Meets e lo hi before m.result.size m.state
       pub as_wanted : (w : Want) (σ : Found) (before : State) (m : Done Met) → Lambda_wanted types e lo w.size → waiting (Some w) σ before ≡ Ok m → As_alone waiting lo w σ before m
-      pub chooses_none : (before : State) (m : Done Met) → waiting None nothing_found before ≡ Ok m → Lambda_flat types e lo → Lambda_chooses_none e m.result.size
 
     -- a function whose arguments wait to be matched
     pub record Is_applied (e : FlatTerm) (lo hi : ℕ) (st : State) (part : Part) (after : State) : Type 0 where

@@ -187,9 +187,10 @@ no_function p r e = let z : Made (head.Scalar (scalar.Int int.I64)) none ≡ Mad
 pub number_name : (In : Free → Type 0) (Vars : Variable → Type 0) (types : Sub) (home : ℕ → ℕ) (scope : Scope) (b : ℕ) (k : Known_name In Vars types home scope b i64_ty) → erased k.size ≡ i64_ty
 number_name In Vars types home scope b k = by_form k.is_general refl
   where
-    by_kind : ((p : Ty) × (r : Ty) × (i64_ty ≡ fun_ty p r)) ⊎ (types (home b) ≡ i64_ty) → erased k.size ≡ i64_ty
+    by_kind : ((p : Ty) × (r : Ty) × (i64_ty ≡ fun_ty p r)) ⊎ ((types (home b) ≡ i64_ty) ⊎ (i64_ty ≡ types (home b))) → erased k.size ≡ i64_ty
     by_kind (inl f) = absurd (no_function f.0 f.1 f.2)
-    by_kind (inr h) = k.typed (λ g. sym h)
+    by_kind (inr (inl h)) = k.typed (λ g. sym h)
+    by_kind (inr (inr h)) = k.typed (λ g. h)
 
     by_form : (c : Bool) → k.is_general ≡ c → erased k.size ≡ i64_ty
     by_form true e = by_kind (k.function e)

@@ -1,9 +1,9 @@
 -- The nodes of an application once all is matched: those of its functions and of its arguments have the sized types that are read.
-use Rattle.std.proofs.Common.{◌≡◌, ◌⊎◌, ℕ, suc, ◌+◌, ◌-◌, ◌<◌, ◌≤◌, List, [], ◌∷◌, ◌++◌, Bool, true, false, Option, Ok, refl, sym, ap, ◌∙◌, subst, arith, inl, inr}
+use Rattle.std.proofs.Common.{◌≡◌, ◌⊎◌, ℕ, zero, suc, ◌+◌, ◌-◌, ◌<◌, ◌≤◌, List, [], ◌∷◌, ◌++◌, Bool, true, false, Option, Ok, refl, sym, ap, ◌∙◌, subst, arith, inl, inr}
 use Rattle.fut_flat.specs.Numbers.{numbers}
 use Rattle.fut_types.specs.Types.{Sub}
 use Rattle.fut_typing.specs.Names.{Names}
-use Rattle.sized_types.specs.Sizes.{Free, Const, Name, Own, Unknown, Slot, Dim, At, Bound, Size, Hole, Open, Level, Built, Fun, Sizes, no_size, size_and, replaced, all_replaced, renamed}
+use Rattle.sized_types.specs.Sizes.{Free, Const, Name, Own, Unknown, Slot, Dim, At, Bound, Size, Hole, Open, Level, Built, Fun, Sizes, no_size, size_and, erased, replaced, all_replaced, renamed}
 use Rattle.fut_sizes.specs.Applications.{Later, Early, with_use, uses}
 use Rattle.fut_sizes.specs.Functions.{is_slot, unknown_slot, quantified, closed}
 use Rattle.fut_sizes.specs.Matching.{Found, found_size, found_dim, read, all_read, Opened, dim_in, in_opened}
@@ -13,7 +13,8 @@ use Rattle.fut_sizes.specs.Steps.{State, Done, and_then, note, at_node}
 use Rattle.fut_sizes.specs.Suiting.{Each, Each_all, Scoped, Data, All_data}
 use Rattle.sizes_meet_rules.specs.Known.{Formed}
 use Rattle.sizes_meet_rules.proofs.Applying.{read_settled}
-use Rattle.sizes_meet_rules.proofs.Chains.{Given, Alone, alone_scoped, alone_at, alone_replaced, Taken_by, taken_typed, Takes_all, frame, framed_as, here, opened_by, after, wants, laters, last_opened, last_size, Plain_given, All_plain, Reads, number_value, Meant, step_in}
+use Rattle.sizes_meet_rules.proofs.Chains.{Gives, Given, Alone, alone_scoped, alone_at, alone_replaced, Taken_by, taken_typed, Takes_all, frame, framed_as, here, opened_by, after, wants, laters, last_opened, last_size, Plain_given, All_plain, Reads, number_value, Meant, step_in}
+use Rattle.sizes_meet_rules.proofs.Flat_types.{flat_each, flat_read, flat_replaced}
 use Rattle.sizes_meet_rules.proofs.Frames.{Frames, pushed, Okay, more, filled, Framed, push_framed, closes, Settled_parameters, quantified_as, dim_low, dim_high}
 use Rattle.sizes_meet_rules.proofs.Meeting.{Then_ok, then_ok, same_ok, at_itself, at_another, each_scoped}
 use Rattle.sizes_meet_rules.proofs.Replacing.{each_as, hole_replaced}
@@ -38,14 +39,13 @@ module _ (N : Names) (types : Sub) (τ : Found) where
   noted_are (l ∷ ls) st z h q = noted_are ls (record { nodes = at_node l.node (value_of l) st.nodes; dropped = st.dropped }) z h.1
       (ap (λ (σ : Found). all_noted N types ls σ (record { nodes = at_node l.node (quantified σ.maker (read σ l.size)) st.nodes; dropped = st.dropped })) (sym (nothing_settled l.size τ h.0)) ∙ q)
 
-  pub met_noted_is : (n : ℕ) (t : Size) (ls : List Later) (b : Bool) (st : State) (u : Done Size) → b ≡ false → Each_hole Any_variable t → Closed_laters ls → met_noted N types n (record { size = t; found = τ; later = ls; goes_on = b }) st ≡ Ok u
+  pub met_noted_is : (n : ℕ) (t : Size) (ls : List Later) (b : Bool) (st : State) (u : Done Size) → closed b τ.maker (read τ t) ≡ renamed (unknown_slot τ.maker) (read τ t) → Each_hole Any_variable t → Closed_laters ls → met_noted N types n (record { size = t; found = τ; later = ls; goes_on = b }) st ≡ Ok u
       → u ≡ record { result = renamed (unknown_slot τ.maker) (read τ t); state = record { nodes = at_node n (renamed (unknown_slot τ.maker) (read τ t)) (noting ls st.nodes); dropped = st.dropped } }
-  unfolding closed
-  met_noted_is n t ls true st u e h c q = absurd (let z : true ≡ false = e in cc)
-  met_noted_is n t ls false st u e h c q = sym (same_ok x.rest) ∙ ap (λ (s : State). record { result = renamed (unknown_slot τ.maker) (read τ t); state = record { nodes = at_node n (renamed (unknown_slot τ.maker) (read τ t)) s.nodes; dropped = s.dropped } }) (noted_are ls st x.first c x.done)
+  met_noted_is n t ls b st u e h c q = sym (same_ok x.rest) ∙ ap (λ (s : State). record { result = closed b τ.maker (read τ t); state = record { nodes = at_node n (closed b τ.maker (read τ t)) s.nodes; dropped = s.dropped } }) (noted_are ls st x.first c x.done)
+      ∙ ap (λ (w : Size). record { result = w; state = record { nodes = at_node n w (noting ls st.nodes); dropped = st.dropped } }) e
     where
-      x : Then_ok (all_noted N types ls τ st) (λ z. Ok (record { result = renamed (unknown_slot τ.maker) (read τ t); state = record { nodes = at_node n (renamed (unknown_slot τ.maker) (read τ t)) z.state.nodes; dropped = z.state.dropped } })) u
-      x = then_ok (all_noted N types ls τ st) (ap (λ (σ : Found). and_then (all_noted N types ls σ) (λ z. note n (renamed (unknown_slot σ.maker) (read σ t))) st) (sym (nothing_settled t τ h)) ∙ q)
+      x : Then_ok (all_noted N types ls τ st) (λ z. Ok (record { result = closed b τ.maker (read τ t); state = record { nodes = at_node n (closed b τ.maker (read τ t)) z.state.nodes; dropped = z.state.dropped } })) u
+      x = then_ok (all_noted N types ls τ st) (ap (λ (σ : Found). and_then (all_noted N types ls σ) (λ z. note n (closed b σ.maker (read σ t))) st) (sym (nothing_settled t τ h)) ∙ q)
 
   -- ---- none of these nodes
 
@@ -110,6 +110,16 @@ module _ (N : Names) (types : Sub) (τ : Found) where
   pub both_distinct : (lo edge : ℕ) (xs ys : List Later) → Distinct xs → Within lo edge xs → Distinct ys → ((x : ℕ) → x < edge → Avoids x ys) → Distinct (xs ++ ys)
   both_distinct lo edge [] ys d w e a = e
   both_distinct lo edge (l ∷ xs) ys d w e a = (both_avoid l.node xs ys d.0 (a l.node w.0.1), both_distinct lo edge xs ys d.1 w.1 e a)
+
+-- no slot stands in what a function takes that is given back
+pub gives_settled : (τ : Found) (g : ℕ → Dim → Dim) (t : Size) (i j : ℕ) → Gives t → Settled_parameters i (read τ (replaced g j t))
+unfolding Settled_parameters Data read replaced
+gives_settled τ g (Hole v) i j h = tt
+gives_settled τ g (Open m v u) i j h = absurd h
+gives_settled τ g (Level d t) i j h = tt
+gives_settled τ g (Built k ts) i j h = tt
+gives_settled τ g (Fun zero p r) i j h = (subst (Each (Scoped Is_settled) (suc i)) (sym (ap (λ x. read τ (replaced g (suc j) x)) h.0 ∙ ap (read τ) (flat_replaced g (suc j) (erased p)) ∙ flat_read τ (erased p))) (flat_each (Scoped Is_settled) (suc i) (erased p)), gives_settled τ g r (suc i) (suc j) h.1)
+gives_settled τ g (Fun (suc k) p r) i j h = absurd h
 
 -- arguments stand one behind another
 abbrev pub Placed : List Given → ℕ → ℕ → Type 0
@@ -300,7 +310,8 @@ module _ (N : Names) (types : Sub) (τ : Found) (n : ℕ) where
       parameters_settled [] (Open b v u) j h e a = absurd h
       parameters_settled [] (Level d t) j h e a = tt
       parameters_settled [] (Built g ts) j h e a = tt
-      parameters_settled [] (Fun k p r) j h e a = absurd h
+      parameters_settled [] (Fun zero p r) j h e a = gives_settled τ (dim_in φ) (Fun zero p r) j j h
+      parameters_settled [] (Fun (suc k) p r) j h e a = absurd h
       parameters_settled (g ∷ gs) (Fun k p r) j h e a = (taken_settles p g.size (suc j) h.0 e.0 a.0, parameters_settled gs r (suc j) h.1 e.1 a.1)
       parameters_settled (g ∷ gs) (Hole v) j h e a = absurd h
       parameters_settled (g ∷ gs) (Open b v u) j h e a = absurd h

@@ -28,11 +28,11 @@ use Rattle.sizes_meet_rules.proofs.Binding.{Leaves, left_name}
 use Rattle.sizes_meet_rules.proofs.Entering.{Lacks, param, Param_says, Written_in, All_written_in, param_says, param_data, takings, all_bound, All_fit, Own_nodes}
 use Rattle.sizes_meet_rules.proofs.Settling.{Any_variable}
 use Rattle.sizes_meet_rules.proofs.Showing.{sizes_written}
-use Rattle.sizes_meet_rules.proofs.Forming.{number_replaced, renaming_keeps, binding_keeps, formed_replaced}
+use Rattle.sizes_meet_rules.proofs.Forming.{no_sizes_before, number_replaced, renaming_keeps, binding_keeps, formed_replaced}
 use Rattle.sizes_meet_rules.proofs.Functions.{no_value, Unknown_met, Unmet, met_unknown, none_met, Entered_in, entered_may, last_may, entered_judged, tells}
 use Rattle.sizes_meet_rules.proofs.Meeting.{In_nodes, Met_in, With_met, met_wider, each_scoped, inside_wider, elsewhere_narrower, Meets}
 use Rattle.sizes_meet_rules.proofs.Naming.{Named_by, each_stands, named_there, known_with, known_wider, With_head, Judged_but, judged_all}
-use Rattle.sizes_meet_rules.proofs.Listing.{without_or, without_among}
+use Rattle.sizes_meet_rules.proofs.Listing.{none_listed, without_or, without_among}
 use Rattle.sizes_meet_rules.proofs.Taking.{pattern_some, Has_parts, bound_scope, not_bound, Nodes, first_node, among_first, among_later, takes_it}
 use Rattle.sizes_meet_rules.proofs.Replacing.{each_as, each_both, each_replaced, erased_replaced, hole_replaced, hole_as}
 
@@ -198,6 +198,7 @@ module _ (N : Names) (types : Sub) (home : ℕ → ℕ) (K : Kinds) (places : Ki
         formed_replaced (binding (place met)) (binding_keeps (place met)) t 0 h,
         bound_low (place met) (λ i. i < many) (own p q) (each_scoped (λ x. stands (own p q) x ≡ true) (λ x. (m : ℕ) → place met x ≡ Some m → m < many) (frame_chosen N types home K places lo at hi q p plain In E l2 (omega (arith, l3)) bs (own p q) o.sizes (own_stands bs In p q o k) head met mets) (own p q) 0 (own_stands bs In p q o k)),
         λ e. bound_low (place met) (λ i. i ≡ many → ⊥) t (each_scoped (λ x. May_be met x × No_value x) (λ x. (i : ℕ) → place met x ≡ Some i → i ≡ many → ⊥) (not_placed met mets (sym (number_replaced (binding (place met)) (own p q) 0) ∙ e)) t 0 m),
+        λ e. ap length (none_listed (is_own bs q) (own p q) (no_sizes_before (binding (place met)) (own p q) 0 0 e)),
       )
 
       arrow_variables : (met : List Free) (t : Size) → Each_hole Vars t → Each_hole Vars (one_arrow met t)

@@ -21,7 +21,7 @@ use Rattle.fut_sizes.specs.Scoping.{Context}
 use Rattle.fut_sizes.specs.Steps.{State}
 use Rattle.fut_sizes.specs.Suiting.{Each, Scoped, Suits, suits_same}
 use Rattle.sizes_meet_rules.specs.Known.{is_i64_size, Known_name, Formed, Says, Judged, Elsewhere}
-use Rattle.sizes_meet_rules.specs.Plain.{Plain_lambda}
+use Rattle.sizes_meet_rules.specs.Plain.{Flat_function}
 use Rattle.sizes_meet_rules.proofs.Applying.{number_size, or_unknown, Value_known}
 use Rattle.sizes_meet_rules.proofs.Chains.{number_value, Meant, step_in, Given, arguments, Takes_all, frame, here, opened_by, after, wants, last_found, last_next, own_maker, arrows_of, argument_by, taken_typed, All_plain}
 use Rattle.sizes_meet_rules.proofs.Entering.{param_data}
@@ -76,6 +76,10 @@ module _ (N : Names) (types : Sub) (home : ℕ → ℕ) (K : Kinds) (places : Ki
     abbrev pub Data_meets : Given → State → State → Type 0
     Data_meets g st behind = Given_meets g st behind × ((HasKind K places (types g.node)) × (g.waits ≡ None))
 
+    -- a function that does not wait
+    abbrev pub Function_meets : Given → State → State → Type 0
+    Function_meets g st behind = Given_meets g st behind × (Flat_function types home K places (types g.node) × (g.waits ≡ None))
+
     -- a lambda that waits
     pub record Lambda_waits (g : Given) : Type 0 where
       pub st : State
@@ -84,30 +88,35 @@ module _ (N : Names) (types : Sub) (home : ℕ → ℕ) (K : Kinds) (places : Ki
       pub waits_is : g.waits ≡ Some waits.waiting
       pub value : g.value ≡ None
       pub named : g.named ≡ false
-      pub plain : Plain_lambda types home K places g.term g.node
+      pub flat : Flat_function types home K places (types g.node)
 
     -- arguments of data that are sized one after another
     abbrev pub All_given : List Given → State → State → Type 0
     All_given [] st A = A ≡ st
     All_given (g ∷ gs) st A = (mid : State) × (Data_meets g st mid × All_given gs mid A)
 
-    -- one lambda among them, which is sized later
+    -- one function among them: a lambda is sized later
     abbrev pub One_waits : List Given → State → State → Type 0
     One_waits [] st A = ⊥
-    One_waits (g ∷ gs) st A = ((mid : State) × (Data_meets g st mid × One_waits gs mid A)) ⊎ (Lambda_waits g × All_given gs st A)
+    One_waits (g ∷ gs) st A = ((mid : State) × (Data_meets g st mid × One_waits gs mid A)) ⊎ ((Lambda_waits g × All_given gs st A) ⊎ ((mid : State) × (Function_meets g st mid × All_given gs mid A)))
 
     pub given_snoc : (gs : List Given) (g : Given) (st mid A : State) → All_given gs st mid → Data_meets g mid A → All_given (gs ++ g ∷ []) st A
     given_snoc [] g st mid A h m = (A, (subst (λ x. Data_meets g x A) h m, refl))
     given_snoc (x ∷ gs) g st mid A h m = (h.0, (h.1.0, given_snoc gs g h.0 mid A h.1.1 m))
 
     pub waits_snoc : (gs : List Given) (g : Given) (st A : State) → All_given gs st A → Lambda_waits g → One_waits (gs ++ g ∷ []) st A
-    waits_snoc [] g st A h w = inr (w, h)
+    waits_snoc [] g st A h w = inr (inl (w, h))
     waits_snoc (x ∷ gs) g st A h w = inl (h.0, (h.1.0, waits_snoc gs g h.0 A h.1.1 w))
+
+    pub function_snoc : (gs : List Given) (g : Given) (st mid A : State) → All_given gs st mid → Function_meets g mid A → One_waits (gs ++ g ∷ []) st A
+    function_snoc [] g st mid A h m = inr (inr (A, (subst (λ x. Function_meets g x A) h m, refl)))
+    function_snoc (x ∷ gs) g st mid A h m = inl (h.0, (h.1.0, function_snoc gs g h.0 mid A h.1.1 m))
 
     pub data_snoc : (gs : List Given) (g : Given) (st mid A : State) → One_waits gs st mid → Data_meets g mid A → One_waits (gs ++ g ∷ []) st A
     data_snoc [] g st mid A h m = absurd h
     data_snoc (x ∷ gs) g st mid A (inl h) m = inl (h.0, (h.1.0, data_snoc gs g h.0 mid A h.1.1 m))
-    data_snoc (x ∷ gs) g st mid A (inr h) m = inr (h.0, given_snoc gs g st mid A h.1 m)
+    data_snoc (x ∷ gs) g st mid A (inr (inl h)) m = inr (inl (h.0, given_snoc gs g st mid A h.1 m))
+    data_snoc (x ∷ gs) g st mid A (inr (inr h)) m = inr (inr (h.0, (h.1.0, given_snoc gs g h.0 mid A h.1.1 m)))
 
     -- ---- once all are sized: the lambda from the state behind data to the last one
 

@@ -21,12 +21,12 @@ use Rattle.fut_sizes.specs.Scopes.{or_else, type_of, type_in, or_variable, insta
 use Rattle.fut_sizes.specs.Steps.{State}
 use Rattle.fut_sizes.specs.Suiting.{Each, Each_all, Scoped, Of_positions, Data, All_data}
 use Rattle.sizes_meet_rules.specs.Known.{is_i64_size, Is_made, Formed, All_formed, Says}
-use Rattle.sizes_meet_rules.specs.Plain.{Is_constant}
+use Rattle.sizes_meet_rules.specs.Plain.{Is_closed}
 use Rattle.sizes_meet_rules.proofs.Applying.{no_arrow}
 use Rattle.sizes_meet_rules.proofs.Chains.{Given, Has_arrows, Widths, arrows_of}
 use Rattle.sizes_meet_rules.proofs.Filling.{function_holes, data_holes, lambda_holes, Data_fit, Is_inferred, Nice, Arrows}
 use Rattle.sizes_meet_rules.proofs.Fitting.{is_simple, is_wanted}
-use Rattle.sizes_meet_rules.proofs.Lambdas.{Waiting_fit, Data_given, All_data_given, One_given, Lambda_there, One_lambda}
+use Rattle.sizes_meet_rules.proofs.Lambdas.{Waiting_fit, Data_given, All_data_given, One_given, Lambda_there, One_lambda, Early_function, Early_there}
 use Rattle.sizes_meet_rules.proofs.Meeting.{each_scoped}
 use Rattle.fut_sizes.proofs.Erasing.{primitive_erased}
 use Rattle.sizes_meet_rules.proofs.Replacing.{each_as, hole_as, holes_as}
@@ -65,6 +65,41 @@ module _ (q : ℕ → Dim → Bool) where
     all_told : (ts : Sizes) (j : ℕ) → all_are q j ts ≡ true → Each_all (λ i d. q i d ≡ true) j ts
     all_told no_size j e = tt
     all_told (size_and t ts) j e = let w = both_true (each_is q j t) (all_are q j ts) e in (each_told t j w.0, all_told ts j w.1)
+
+-- no size stands in it
+unfoldable mutual
+  has_none : Size → Bool
+  has_none (Hole v) = true
+  has_none (Open n v u) = true
+  has_none (Level d t) = false
+  has_none (Built h ts) = have_none ts
+  has_none (Fun k p r) = has_none p && has_none r
+
+  have_none : Sizes → Bool
+  have_none no_size = true
+  have_none (size_and t ts) = has_none t && have_none ts
+
+are_both : (a b : Bool) → a ≡ true → b ≡ true → a && b ≡ true
+are_both true b e f = f
+are_both false b e f = e
+
+mutual
+  unfolding has_none have_none Each Each_all
+
+  none_told : (t : Size) (j : ℕ) → Each (λ i d. ⊥) j t → has_none t ≡ true
+  none_told (Hole v) j h = refl
+  none_told (Open n v u) j h = refl
+  none_told (Level d t) j h = absurd h.0
+  none_told (Built k ts) j h = all_none_told ts j h
+  none_told (Fun k p r) j h = are_both (has_none p) (has_none r) (none_told p (suc j) h.0) (none_told r (suc j) h.1)
+
+  all_none_told : (ts : Sizes) (j : ℕ) → Each_all (λ i d. ⊥) j ts → have_none ts ≡ true
+  all_none_told no_size j h = refl
+  all_none_told (size_and t ts) j h = are_both (has_none t) (have_none ts) (none_told t j h.0) (all_none_told ts j h.1)
+
+none_chosen : (k : ℕ) (b : Bool) → not b || nat_eq k 0 ≡ true → b ≡ true → k ≡ 0
+none_chosen k true e f = eqb-true k 0 e
+none_chosen k false e f = absurd (let z : false ≡ true = f in cc)
 
 -- positions of the frame around: only chosen ones, not the argument's, and no size by itself
 abbrev chosen_there : ℕ → ℕ → Dim → Bool
@@ -172,7 +207,7 @@ unfoldable mutual
   has_form (Open n v u) = false
   has_form (Level d t) = has_form t
   has_form (Built h ts) = makes h && have_form ts
-  has_form (Fun k p r) = has_form p && (has_form r && (each_is (chosen_there k) 1 p && (each_is (no_value_there k) 1 r || is_i64_size p)))
+  has_form (Fun k p r) = has_form p && (has_form r && (each_is (chosen_there k) 1 p && ((each_is (no_value_there k) 1 r || is_i64_size p) && (not (has_none p) || nat_eq k 0))))
 
   have_form : Sizes → Bool
   have_form no_size = true
@@ -195,12 +230,13 @@ mutual
   form_told (Level d t) e = form_told t e
   form_told (Built h ts) e = let w = both_true (makes h) (have_form ts) e in let r = forms_told ts w.1 in ((makes_told h w.0, r.0), r.1)
   form_told (Fun k p r) e =
-      let w = both_true (has_form p) (has_form r && (each_is (chosen_there k) 1 p && (each_is (no_value_there k) 1 r || is_i64_size p))) e in
-      let x = both_true (has_form r) (each_is (chosen_there k) 1 p && (each_is (no_value_there k) 1 r || is_i64_size p)) w.1 in
-      let y = both_true (each_is (chosen_there k) 1 p) (each_is (no_value_there k) 1 r || is_i64_size p) x.1 in
+      let w = both_true (has_form p) (has_form r && (each_is (chosen_there k) 1 p && ((each_is (no_value_there k) 1 r || is_i64_size p) && (not (has_none p) || nat_eq k 0)))) e in
+      let x = both_true (has_form r) (each_is (chosen_there k) 1 p && ((each_is (no_value_there k) 1 r || is_i64_size p) && (not (has_none p) || nat_eq k 0))) w.1 in
+      let y = both_true (each_is (chosen_there k) 1 p) ((each_is (no_value_there k) 1 r || is_i64_size p) && (not (has_none p) || nat_eq k 0)) x.1 in
+      let z = both_true (each_is (no_value_there k) 1 r || is_i64_size p) (not (has_none p) || nat_eq k 0) y.1 in
       let a = form_told p w.0 in
       let b = form_told r x.0 in
-      ((a.0, b.0, each_as (λ i d. chosen_there k i d ≡ true) (Of_positions (λ i. i < k)) (chosen_told k) p 1 (each_told (chosen_there k) p 1 y.0), value_or_number k p r y.1), (a.1, b.1))
+      ((a.0, b.0, each_as (λ i d. chosen_there k i d ≡ true) (Of_positions (λ i. i < k)) (chosen_told k) p 1 (each_told (chosen_there k) p 1 y.0), value_or_number k p r z.0, λ h. none_chosen k (has_none p) z.1 (none_told p 0 h)), (a.1, b.1))
 
   forms_told : (ts : Sizes) → have_form ts ≡ true → All_formed ts × Each_holes Is_inferred ts
   forms_told no_size e = (tt, tt)
@@ -216,7 +252,7 @@ abbrev is_fine : Bool → Size → Bool
 is_fine regular t = has_form t && (each_is framed 0 t && (each_hole_is (parameter_holes t) t && takes_args (data_holes t) regular t))
 
 fine : (p : Primitive) → is_fine (is_regular p) (prim_size p) ≡ true
-unfolding prim_size sized_type levels all_levels has_form have_form each_is all_are each_hole_is all_holes_are data_holes lambda_holes function_holes has_hole some_hole takes_args is_wanted is_simple is_data are_data
+unfolding prim_size sized_type levels all_levels has_form have_form has_none have_none each_is all_are each_hole_is all_holes_are data_holes lambda_holes function_holes has_hole some_hole takes_args is_wanted is_simple is_data are_data
 fine prim.Map = refl
 fine prim.Map2 = refl
 fine prim.Map3 = refl
@@ -431,6 +467,20 @@ module _ (n : ℕ) (types : Variable → Ty) where
       all_given_holes no_size h = tt
       all_given_holes (size_and t ts) h = (given_holes t h.0, all_given_holes ts h.1)
 
+    mutual
+      unfolding with_types all_with_types Each Each_all
+
+      none_given : (t : Size) (j : ℕ) → Each (λ i d. ⊥) j (with_types Θ t) → Each (λ i d. ⊥) j t
+      none_given (Hole v) j h = tt
+      none_given (Open m v u) j h = tt
+      none_given (Level d t) j h = absurd h.0
+      none_given (Built k ts) j h = all_none_given ts j h
+      none_given (Fun k p r) j h = (none_given p (suc j) h.0, none_given r (suc j) h.1)
+
+      all_none_given : (ts : Sizes) (j : ℕ) → Each_all (λ i d. ⊥) j (all_with_types Θ ts) → Each_all (λ i d. ⊥) j ts
+      all_none_given no_size j h = tt
+      all_none_given (size_and t ts) j h = (none_given t j h.0, all_none_given ts j h.1)
+
     no_number : (p : Size) → is_i64_size (with_types Θ p) ≡ false → is_i64_size p ≡ false
     unfolding with_types all_with_types
     no_number (Hole v) e = refl
@@ -448,7 +498,7 @@ module _ (n : ℕ) (types : Variable → Ty) where
       given_formed (Open m v u) h f = f
       given_formed (Level d t) h f = given_formed t h f
       given_formed (Built k ts) h f = (f.0, all_given_formed ts h f.1)
-      given_formed (Fun k p r) h f = (given_formed p h.0 f.0, given_formed r h.1 f.1, given_each (Of_positions (λ i. i < k)) (λ j x i. tt) p 1 h.0 f.2, λ e. given_each (Of_positions (λ i. i ≡ k → ⊥)) (λ j x i. tt) r 1 h.1 (f.3 (no_number p e)))
+      given_formed (Fun k p r) h f = (given_formed p h.0 f.0, given_formed r h.1 f.1, given_each (Of_positions (λ i. i < k)) (λ j x i. tt) p 1 h.0 f.2, λ e. given_each (Of_positions (λ i. i ≡ k → ⊥)) (λ j x i. tt) r 1 h.1 (f.3 (no_number p e)), λ e. f.4 (none_given p 0 e))
 
       all_given_formed : (ts : Sizes) → Each_holes Nice_there ts → All_formed ts → All_formed (all_with_types Θ ts)
       all_given_formed no_size h f = tt
@@ -541,6 +591,15 @@ module _ (n : ℕ) (types : Variable → Ty) where
               let y = both_true (is_arrow p) (is_wanted q (λ v. regular) p) b in
               record { fit = F; wanted = y.1; arrow = y.0; inferred = i; kinds = kinds_there p i o; typed = opened_typed g p i o ∙ e ∙ sym same }
 
+      early_parameter : (p : Size) (x : Given) → Formed p → is_data p || (is_arrow p && is_wanted q (λ v. regular) p) ≡ true → Each_hole Is_inferred p → Each_hole (λ v. types v ≡ given_of g v) p → applied g (erased p) ≡ sub x.node → Early_function P Vars sub x → Went → after ≡ st → Early_there n types P settled Vars K sub Went st after lo q regular x p
+      early_parameter p x f w i o e F went same = by_kind (one_of (is_data p) (is_arrow p && is_wanted q (λ v. regular) p) w)
+        where
+          by_kind : (is_data p ≡ true) ⊎ (is_arrow p && is_wanted q (λ v. regular) p ≡ true) → Early_there n types P settled Vars K sub Went st after lo q regular x p
+          by_kind (inl d) = absurd (data_typed p F.from F.to f i d (e ∙ F.function))
+          by_kind (inr b) =
+              let y = both_true (is_arrow p) (is_wanted q (λ v. regular) p) b in
+              record { went = went; state = same; function = F; wanted = y.1; arrow = y.0; inferred = i; kinds = kinds_there p i o; typed = opened_typed g p i o ∙ e }
+
       lambda_arrows : (gs : List Given) (t : Size) (u : Ty) → Formed t → Each_hole Is_inferred t → takes_args q regular t ≡ true → Each_hole (λ v. types v ≡ given_of g v) t → 1 ≤ rank K u → applied g (erased t) ≡ arrows_of sub gs u → One_given P Vars K sub Went st after gs → Arrows n types P settled Vars gs t × One_lambda n types P settled Vars K sub Went st after lo q regular gs t
       unfolding takes_args Formed Each_hole erased applied all_applied
       lambda_arrows [] t u f i d o k1 e D = absurd D
@@ -550,12 +609,18 @@ module _ (n : ℕ) (types : Variable → Ty) where
           let A = data_parameter p x w.0 i.0 o.0 (let z : applied g (erased p) ≡ sub x.node = cc in z) D.0 in
           let R = lambda_arrows gs r u f.1 i.1 w.1 o.1 k1 (let z : applied g (erased r) ≡ arrows_of sub gs u = cc in z) D.1 in
           ((inl A, R.0), inl (D.0, no_arrow p A.0.0, R.1))
-      lambda_arrows (x ∷ gs) (Fun k p r) u f i d o k1 e (inr D) =
+      lambda_arrows (x ∷ gs) (Fun k p r) u f i d o k1 e (inr (inl D)) =
           let w = both_true (is_data p || (is_arrow p && is_wanted q (λ v. regular) p)) (takes_args q regular r) d in
           let y : fun_ty (applied g (erased p)) (applied g (erased r)) ≡ fun_ty (sub x.node) (arrows_of sub gs u) = e in
           let L = lambda_parameter p x f.0 w.0 i.0 o.0 (let z : applied g (erased p) ≡ sub x.node = cc in z) D.0.0 D.0.1 D.0.2.0 D.0.2.1.0 D.0.2.1.1 in
           let R = data_arrows gs r u f.1 i.1 w.1 o.1 k1 (let z : applied g (erased r) ≡ arrows_of sub gs u = cc in z) D.1 in
-          ((inr (D.0.0.given.is_fun, L.arrow), R.0), inr (L, D.1, R.1))
+          ((inr (D.0.0.given.is_fun, L.arrow), R.0), inr (inl (L, D.1, R.1)))
+      lambda_arrows (x ∷ gs) (Fun k p r) u f i d o k1 e (inr (inr D)) =
+          let w = both_true (is_data p || (is_arrow p && is_wanted q (λ v. regular) p)) (takes_args q regular r) d in
+          let y : fun_ty (applied g (erased p)) (applied g (erased r)) ≡ fun_ty (sub x.node) (arrows_of sub gs u) = e in
+          let L = early_parameter p x f.0 w.0 i.0 o.0 (let z : applied g (erased p) ≡ sub x.node = cc in z) D.1 D.0.0 D.0.1 in
+          let R = data_arrows gs r u f.1 i.1 w.1 o.1 k1 (let z : applied g (erased r) ≡ arrows_of sub gs u = cc in z) D.2 in
+          ((inr (D.1.is_fun, L.arrow), R.0), inr (inr (L, D.2, R.1)))
       lambda_arrows (x ∷ gs) (Hole (Inferred v)) u f i d o k1 e D = absurd (no_function (sub x.node) (arrows_of sub gs u) (subst (λ w. 1 ≤ rank K w) e (kinds v)))
       lambda_arrows (x ∷ gs) (Hole (Written b k)) u f i d o k1 e D = absurd i
       lambda_arrows (x ∷ gs) (Open m v y) u f i d o k1 e D = absurd f
@@ -604,29 +669,38 @@ module _ (n : ℕ) (p : Primitive) (u : Ty) (g : Sub) (typed : u ≡ applied g (
       formed = given_formed n types_there P settled Vars Θ (prim_size p) h (prim_ok p).formed;
     }
 
--- ---- a primitive that is a number
+-- ---- a primitive without type variables
 
-pub record Constant (p : Primitive) : Type 0 where
-  pub sort : ScalarType
-  pub size_is : prim_size p ≡ scalar_size sort
-  pub type_is : prim_type p ≡ scalar_ty sort
-  pub regular : is_regular p ≡ false
+pub closed_is : (p : Primitive) → Is_closed p → Each_hole (λ v. ⊥) (prim_size p) × (is_regular p ≡ false)
+unfolding prim_size sized_type levels all_levels Each_hole Each_holes
+closed_is (prim.Lowest own) i = (tt, refl)
+closed_is (prim.Highest own) i = (tt, refl)
+closed_is (prim.NumBits own) i = (tt, refl)
+closed_is (prim.Convert to from) i = ((tt, tt), refl)
+closed_is (prim.Min own) i = ((tt, (tt, tt)), refl)
+closed_is (prim.Max own) i = ((tt, (tt, tt)), refl)
+closed_is (prim.Abs own) i = ((tt, tt), refl)
+closed_is (prim.Popc own) i = ((tt, tt), refl)
+closed_is prim.Iota i = ((tt, tt), refl)
+closed_is p i = absurd i
 
-pub constant_is : (p : Primitive) → Is_constant p → Constant p
-unfolding prim_size sized_type
-constant_is (prim.Lowest own) i = record { sort = scalar.Int own; size_is = refl; type_is = refl; regular = refl }
-constant_is (prim.Highest own) i = record { sort = scalar.Int own; size_is = refl; type_is = refl; regular = refl }
-constant_is (prim.NumBits own) i = record { sort = scalar.Int int.I32; size_is = refl; type_is = refl; regular = refl }
-constant_is p i = absurd i
+module _ (g : Sub) where
+  mutual
+    unfolding erased all_erased Each_hole Each_holes applied all_applied
 
-pub constant_used : (n : ℕ) (u : Ty) (c : ScalarType) → used n u (scalar_size c) ≡ scalar_size c
-unfolding used instance instances
-constant_used n u c = refl
+    closed_applied : (t : Size) → Each_hole (λ v. ⊥) t → applied g (erased t) ≡ erased t
+    closed_applied (Hole v) h = absurd h
+    closed_applied (Open n v u) h = absurd h
+    closed_applied (Level d t) h = ap (λ x. Made head.Array (more x none)) (closed_applied t h)
+    closed_applied (Built k ts) h = ap (Made k) (all_closed_applied ts h)
+    closed_applied (Fun k p r) h = ap (λ x. fun_ty x (applied g (erased r))) (closed_applied p h.0) ∙ ap (fun_ty (erased p)) (closed_applied r h.1)
 
-pub constant_typed : (c : ScalarType) → erased (scalar_size c) ≡ scalar_ty c
-unfolding erased all_erased
-constant_typed c = refl
+    all_closed_applied : (ts : Sizes) → Each_holes (λ v. ⊥) ts → all_applied g (all_erased ts) ≡ all_erased ts
+    all_closed_applied no_size h = refl
+    all_closed_applied (size_and t ts) h = ap (λ x. more x (all_applied g (all_erased ts))) (closed_applied t h.0) ∙ ap (more (erased t)) (all_closed_applied ts h.1)
 
-pub constant_applied : (g : Sub) (c : ScalarType) → applied g (scalar_ty c) ≡ scalar_ty c
-unfolding applied all_applied
-constant_applied g c = refl
+pub closed_typed : (p : Primitive) (g : Sub) → Is_closed p → erased (prim_size p) ≡ applied g (prim_type p)
+closed_typed p g i = sym (closed_applied g (prim_size p) (closed_is p i).0) ∙ ap (applied g) (primitive_erased p)
+
+pub closed_says : (p : Primitive) (In : Free → Type 0) (Vars : Variable → Type 0) → Is_closed p → Says In Vars (prim_size p)
+closed_says p In Vars i = record { sizes = each_scoped (λ x. ⊥) In (λ x z. absurd z) (prim_size p) 0 (prim_ok p).sizes; variables = hole_as (λ v. ⊥) Vars (λ v z. absurd z) (prim_size p) (closed_is p i).0; formed = (prim_ok p).formed }

@@ -6,7 +6,7 @@ use Rattle.fut_scalar.specs.declared.place.Place.{Place}
 use Rattle.fut_flat.specs.declared.prim.Primitive.{Primitive}
 use Rattle.fut_flat.specs.declared.prim.Ref.TheVariants as ref
 use Rattle.fut_flat.specs.Numbers.{numbers}
-use Rattle.fut_flat.specs.Terms.{no_pattern, pattern_and, Use, Strict, Lambda, Apply, Let, If, Loop}
+use Rattle.fut_flat.specs.Terms.{Use, Apply}
 use Rattle.fut_flat.specs.Erased.{FlatTerm}
 use Rattle.fut_types.specs.declared.Head.TheVariants as head
 use Rattle.fut_types.specs.declared.Kind.{Kind}
@@ -22,15 +22,13 @@ use Rattle.fut_sizes.specs.Scopes.{Scope, used}
 use Rattle.fut_sizes.specs.Sizing.{as_argument, with_argument, sized}
 use Rattle.fut_sizes.specs.Steps.{State, Done}
 use Rattle.sizes_meet_rules.specs.Known.{Known_name, Known_names, Elsewhere}
-use Rattle.sizes_meet_rules.specs.Plain.{Is_lambda, Plain_headed, Plain_term, Plain_lambda, Plain_spine}
-use Rattle.sizes_meet_rules.proofs.Applying.{Argument_meets, argument_meets, value_is_known}
+use Rattle.sizes_meet_rules.specs.Plain.{Flat_function, Plain_term, Plain_spine}
+use Rattle.sizes_meet_rules.proofs.Applying.{Argument_meets, argument_meets, early_meets, value_is_known}
 use Rattle.sizes_meet_rules.proofs.Chains.{Given, argument_by, arguments, arrows_of}
-use Rattle.sizes_meet_rules.proofs.Heading.{headless, known_headless}
 use Rattle.sizes_meet_rules.proofs.Heads.{a_name, a_primitive, Head, Primitive_head}
-use Rattle.sizes_meet_rules.proofs.Letting.{Law_headed}
-use Rattle.sizes_meet_rules.proofs.Meeting.{then_ok, same_ok, elsewhere_narrower, Part_meets, Waits}
+use Rattle.sizes_meet_rules.proofs.Meeting.{then_ok, same_ok, elsewhere_narrower, Part_meets, Whole_meets, Is_applied, Waits}
 use Rattle.sizes_meet_rules.proofs.Noting.{Placed}
-use Rattle.sizes_meet_rules.proofs.Parts.{spine, spine_snoc, arguments_snoc, length_snoc, arrows_snoc, placed_snoc, Data_meets, Lambda_waits, All_given, One_waits, given_snoc, waits_snoc, data_snoc}
+use Rattle.sizes_meet_rules.proofs.Parts.{spine, spine_snoc, arguments_snoc, length_snoc, arrows_snoc, placed_snoc, Data_meets, Function_meets, Lambda_waits, All_given, One_waits, given_snoc, waits_snoc, function_snoc, data_snoc}
 use Rattle.sizes_meet_rules.proofs.Showing.{numbers_some, Law_of}
 use Rattle.sizes_meet_rules.proofs.Using.{use_is}
 
@@ -49,7 +47,7 @@ module _ (N : Names) (types : Sub) (home : ℕ → ℕ) (K : Kinds) (places : Ki
     pub head : Head N types home K In Vars scope term size regular type
     pub part : d.result ≡ Applied size regular (arguments given)
     pub placed : Placed given (lo + length (arguments given) + numbers term) (lo + numbers f)
-    -- data alone, or one lambda among it, which a primitive takes
+    -- data alone, or one function among it, which a primitive takes
     pub meet : All_given N types home K places data_places In Vars scope given st d.state ⊎ ((lambda ≡ false) × One_waits N types home K places data_places In Vars scope given st d.state × Primitive_head N types home K In Vars scope term size regular type)
     pub of_lambda : lambda ≡ true → Primitive_head N types home K In Vars scope term size regular type
 
@@ -122,16 +120,6 @@ module _ (N : Names) (types : Sub) (home : ℕ → ℕ) (K : Kinds) (places : Ki
       record { function = x1.first; part = x2.first; argument = x3.first; function_is = x1.done; part_is = x2.done; argument_is = x3.done; gives = x3.rest }
 
   -- a lambda that is an argument waits
-  lambda_head : (e : FlatTerm) (n : ℕ) → Plain_lambda types home K places e n → Is_lambda e × Plain_headed types home K places N [] e n
-  lambda_head (Lambda (pattern_and p ps) e) n h = (tt, headless types home K places N (pattern_and p ps) (1 + n))
-  lambda_head (Lambda no_pattern e) n h = absurd h
-  lambda_head (Use r at k) n h = absurd h
-  lambda_head (Strict o mark ts) n h = absurd h
-  lambda_head (Apply f e) n h = absurd h
-  lambda_head (Let b v e) n h = absurd h
-  lambda_head (If c a b) n h = absurd h
-  lambda_head (Loop mark sizes p first turns body) n h = absurd h
-
   record Lambda_argument (e : FlatTerm) (n : ℕ) (In : Free → Type 0) (Vars : Variable → Type 0) (scope : Scope) (before : State) (part : Done Part) (argument : Done Argument) : Type 0 where
     waits : Waits N types home In Vars scope e n (n + numbers e) part.state part.result part.state
     is_late : argument.result ≡ Late n waits.waiting
@@ -139,7 +127,7 @@ module _ (N : Names) (types : Sub) (home : ℕ → ℕ) (K : Kinds) (places : Ki
 
   lambda_argument : (e : FlatTerm) (n : ℕ) (In : Free → Type 0) (Vars : Variable → Type 0) (scope : Scope) (before : State) (part : Done Part) (argument : Done Argument) → Waits N types home In Vars scope e n (n + numbers e) before part.result part.state → as_argument N types n e part.result part.state ≡ Ok argument → Lambda_argument e n In Vars scope before part argument
   lambda_argument e n In Vars scope before part argument W q = record {
-    waits = record { waiting = W.waiting; is_waiting = W.is_waiting; unchanged = refl; of_function = W.of_function; typed_as = W.typed_as; known_sizes = W.known_sizes; by_itself = W.by_itself; as_wanted = W.as_wanted; chooses_none = W.chooses_none };
+    waits = record { waiting = W.waiting; is_waiting = W.is_waiting; unchanged = refl; of_function = W.of_function; is_lambda = W.is_lambda; typed_as = W.typed_as; known_sizes = W.known_sizes; by_itself = W.by_itself; as_wanted = W.as_wanted };
     is_late = ap (λ (a : Done Argument). a.result) (sym now);
     state = ap (λ (a : Done Argument). a.state) (sym now) ∙ W.unchanged;
   }
@@ -148,7 +136,7 @@ module _ (N : Names) (types : Sub) (home : ℕ → ℕ) (K : Kinds) (places : Ki
       now = same_ok (ap (λ p. as_argument N types n e p part.state) (sym W.is_waiting) ∙ q)
 
   -- one argument more
-  module _ (lambda : Bool) (f e : FlatTerm) (lf : Spine_law f) (le : Law_of N types home K places e) (lh : Law_headed N types home K places data_places e) (In : Free → Type 0) (Vars : Variable → Type 0) (scope : Scope) (T : TypeScope) (lo : ℕ) (st : State) (d : Done Part) (pe : Plain_term types home K places N e (1 + lo + numbers f)) (t : Typed N places (Apply f e) lo T K types) (known : Known_names In Vars home scope K types T) (E : Elsewhere N types home lo (lo + numbers (Apply f e)) In) (R : Apply_ran f e lo (1 + lo + numbers f) scope st d) where
+  module _ (lambda : Bool) (f e : FlatTerm) (lf : Spine_law f) (le : Law_of N types home K places e) (In : Free → Type 0) (Vars : Variable → Type 0) (scope : Scope) (T : TypeScope) (lo : ℕ) (st : State) (d : Done Part) (pe : Plain_term types home K places N e (1 + lo + numbers f)) (t : Typed N places (Apply f e) lo T K types) (known : Known_names In Vars home scope K types T) (E : Elsewhere N types home lo (lo + numbers (Apply f e)) In) (R : Apply_ran f e lo (1 + lo + numbers f) scope st d) where
     some : 1 ≤ numbers e
     some = numbers_some e
 
@@ -207,37 +195,58 @@ module _ (N : Names) (types : Sub) (home : ℕ → ℕ) (K : Kinds) (places : Ki
         by_meet (inl h) = inl (given_snoc N types home K places data_places In Vars scope S.given g st R.function.state R.argument.state h M)
         by_meet (inr h) = inr (h.0, data_snoc N types home K places data_places In Vars scope S.given g st R.function.state R.argument.state h.1 M, h.2)
 
-    -- and the lambda
-    lambda_more : lambda ≡ false → Plain_lambda types home K places e (1 + lo + numbers f) → Plain_spine types home K places N true f (1 + lo) → Spine lambda In Vars scope (Apply f e) lo st d
-    lambda_more none pl pf = more true S g refl refl A.is_late (inr (none, waits_snoc N types home K places data_places In Vars scope S.given g st R.argument.state (by_meet S.meet) L, S.of_lambda refl)) (λ z. absurd (let y : true ≡ false = sym z ∙ none in cc))
+    -- and a function
+    function_more : lambda ≡ false → Flat_function types home K places (types (1 + lo + numbers f)) → Plain_spine types home K places N true f (1 + lo) → Spine lambda In Vars scope (Apply f e) lo st d
+    function_more none flat pf = by_part X
       where
         S : Spine true In Vars scope f (1 + lo) st R.function
         S = lf true In Vars scope T (1 + lo) st R.function pf t.0.0 known in_function R.function_is
 
-        at_head : Is_lambda e × Plain_headed types home K places N [] e (1 + lo + numbers f)
-        at_head = lambda_head e (1 + lo + numbers f) pl
+        -- no function stands before it
+        before_it : All_given N types home K places data_places In Vars scope S.given st R.function.state ⊎ ((true ≡ false) × One_waits N types home K places data_places In Vars scope S.given st R.function.state × Primitive_head N types home K In Vars scope S.term S.size S.regular S.type) → All_given N types home K places data_places In Vars scope S.given st R.function.state
+        before_it (inl h) = h
+        before_it (inr h) = absurd (let z : true ≡ false = h.0 in cc)
 
-        A : Lambda_argument e (1 + lo + numbers f) In Vars scope R.function.state R.part R.argument
-        A = lambda_argument e (1 + lo + numbers f) In Vars scope R.function.state R.part R.argument
-            (lh [] In Vars scope T (1 + lo + numbers f) R.function.state R.part at_head.0 at_head.1 pe t.0.1 (known_headless N types home K places In Vars scope T known) in_argument R.part_is) R.argument_is
+        no_other : lambda ≡ true → Primitive_head N types home K In Vars scope S.term S.size S.regular S.type
+        no_other z = absurd (let y : true ≡ false = sym z ∙ none in cc)
 
-        g : Given
-        g = record { node = 1 + lo + numbers f; value = None; named = false; size = Built head.Tuple no_size; term = e; width = 0; waits = Some A.waits.waiting }
+        -- a lambda
+        late : Waits N types home In Vars scope e (1 + lo + numbers f) (1 + lo + numbers f + numbers e) R.function.state R.part.result R.part.state → Spine lambda In Vars scope (Apply f e) lo st d
+        late W = more true S g refl refl A.is_late (inr (none, waits_snoc N types home K places data_places In Vars scope S.given g st R.argument.state (subst (λ x. All_given N types home K places data_places In Vars scope S.given st x) (sym A.state) (before_it S.meet)) L, S.of_lambda refl)) no_other
+          where
+            A : Lambda_argument e (1 + lo + numbers f) In Vars scope R.function.state R.part R.argument
+            A = lambda_argument e (1 + lo + numbers f) In Vars scope R.function.state R.part R.argument W R.argument_is
 
-        L : Lambda_waits N types home K places data_places In Vars scope g
-        L = record { st = R.part.state; part = R.part.result; waits = A.waits; waits_is = refl; value = refl; named = refl; plain = pl }
+            g : Given
+            g = record { node = 1 + lo + numbers f; value = None; named = false; size = Built head.Tuple no_size; term = e; width = 0; waits = Some A.waits.waiting }
 
-        -- no lambda stands before it
-        by_meet : All_given N types home K places data_places In Vars scope S.given st R.function.state ⊎ ((true ≡ false) × One_waits N types home K places data_places In Vars scope S.given st R.function.state × Primitive_head N types home K In Vars scope S.term S.size S.regular S.type) → All_given N types home K places data_places In Vars scope S.given st R.argument.state
-        by_meet (inl h) = subst (λ x. All_given N types home K places data_places In Vars scope S.given st x) (sym A.state) h
-        by_meet (inr h) = absurd (let z : true ≡ false = h.0 in cc)
+            L : Lambda_waits N types home K places data_places In Vars scope g
+            L = record { st = R.part.state; part = R.part.result; waits = A.waits; waits_is = refl; value = refl; named = refl; flat = flat }
 
-  pub apply_spine : (f e : FlatTerm) → Spine_law f → Law_of N types home K places e → Law_headed N types home K places data_places e → Spine_law (Apply f e)
-  apply_spine f e lf le lh lambda In Vars scope T lo st d pl t known E q = by_kind pl.0
+        -- one whose sized type is known
+        early : Whole_meets N types home In Vars scope e (1 + lo + numbers f) (1 + lo + numbers f + numbers e) R.function.state R.part.result R.part.state ⊎ Is_applied N types home In Vars scope e (1 + lo + numbers f) (1 + lo + numbers f + numbers e) R.function.state R.part.result R.part.state → Spine lambda In Vars scope (Apply f e) lo st d
+        early W = more true S g refl refl A.is_early (inr (none, function_snoc N types home K places data_places In Vars scope S.given g st R.function.state R.argument.state (before_it S.meet) M, S.of_lambda refl)) no_other
+          where
+            A : Argument_meets N types home K places data_places In Vars scope e (1 + lo + numbers f) (1 + lo + numbers f + numbers e) R.function.state R.argument.result R.argument.state
+            A = early_meets N types home K places data_places In Vars scope e (1 + lo + numbers f) (1 + lo + numbers f + numbers e) R.function.state R.part.result R.part.state R.argument (let n = some in omega (arith, n)) W R.argument_is
+
+            g : Given
+            g = record { node = 1 + lo + numbers f; value = A.value; named = A.named; size = A.size; term = e; width = 0; waits = None }
+
+            M : Function_meets N types home K places data_places In Vars scope g R.function.state R.argument.state
+            M = (record { value_is = A.value_is; inner = A.inner; noted = A.here; value_known = value_is_known N types home K places data_places e (1 + lo + numbers f) In Vars scope T known t.0.1 }, (flat, refl))
+
+        by_part : Part_meets N types home In Vars scope e (1 + lo + numbers f) (1 + lo + numbers f + numbers e) R.function.state R.part.result R.part.state → Spine lambda In Vars scope (Apply f e) lo st d
+        by_part (inl W) = early (inl W)
+        by_part (inr (inl W)) = late W
+        by_part (inr (inr W)) = early (inr W)
+
+  pub apply_spine : (f e : FlatTerm) → Spine_law f → Law_of N types home K places e → Spine_law (Apply f e)
+  apply_spine f e lf le lambda In Vars scope T lo st d pl t known E q = by_kind pl.0
     where
       R : Apply_ran f e lo (1 + lo + numbers f) scope st d
       R = apply_ran f e lo scope st d q
 
-      by_kind : (HasKind K places (types (1 + lo + numbers f)) × Plain_spine types home K places N lambda f (1 + lo)) ⊎ ((lambda ≡ false) × Plain_lambda types home K places e (1 + lo + numbers f) × Plain_spine types home K places N true f (1 + lo)) → Spine lambda In Vars scope (Apply f e) lo st d
-      by_kind (inl h) = data_more lambda f e lf le lh In Vars scope T lo st d pl.1 t known E R h.0 h.1
-      by_kind (inr h) = lambda_more lambda f e lf le lh In Vars scope T lo st d pl.1 t known E R h.0 h.1 h.2
+      by_kind : (HasKind K places (types (1 + lo + numbers f)) × Plain_spine types home K places N lambda f (1 + lo)) ⊎ ((lambda ≡ false) × Flat_function types home K places (types (1 + lo + numbers f)) × Plain_spine types home K places N true f (1 + lo)) → Spine lambda In Vars scope (Apply f e) lo st d
+      by_kind (inl h) = data_more lambda f e lf le In Vars scope T lo st d pl.1 t known E R h.0 h.1
+      by_kind (inr h) = function_more lambda f e lf le In Vars scope T lo st d pl.1 t known E R h.0 h.1 h.2

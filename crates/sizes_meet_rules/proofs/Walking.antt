@@ -31,22 +31,22 @@ use Rattle.sizes_meet_rules.specs.Known.{Says, Is_const, Known_name, Known_names
 use Rattle.sizes_meet_rules.specs.Plain.{Plain_head, Plain_operation, Plain_term, Plain_terms}
 use Rattle.sizes_meet_rules.proofs.Replacing.{all_each_as}
 use Rattle.sizes_meet_rules.proofs.Forming.{data_of, erased_kept, formed_kept, variables_kept, sizes_kept}
-use Rattle.sizes_meet_rules.proofs.Meeting.{then_ok, asked, same_ok, at_itself, at_another, Met_in, With_met, each_scoped, met_wider, met_outside, says_more, scoped_as, elsewhere_narrower, away_of, Inner, Meets, Chooses_none, Part_meets}
+use Rattle.sizes_meet_rules.proofs.Meeting.{then_ok, asked, same_ok, at_itself, at_another, Met_in, With_met, each_scoped, met_wider, met_outside, says_more, scoped_as, elsewhere_narrower, away_of, Inner, Meets, Part_meets}
 use Rattle.sizes_meet_rules.proofs.Showing.{own_some, numbers_some, Law_of, alone, sizes_written}
 use Rattle.sizes_meet_rules.proofs.Letting.{Law_headed, any_let}
 use Rattle.sizes_meet_rules.proofs.Looping.{Law_turns, scalar_says, Loop_ran, Loop_meets, loop_meets}
 use Rattle.sizes_meet_rules.proofs.Binding.{leaves}
 use Rattle.sizes_meet_rules.proofs.Entering.{takings, all_bound, own_nodes_as, Lambda_ran, lambda_ran}
-use Rattle.sizes_meet_rules.proofs.Primitives.{Constant, constant_is, constant_used, constant_typed, constant_applied}
+use Rattle.sizes_meet_rules.proofs.Primitives.{closed_is, closed_typed, closed_says}
 use Rattle.sizes_meet_rules.proofs.Applied.{apply_part}
 use Rattle.sizes_meet_rules.proofs.Spines.{Spine_law, use_spine, primitive_spine, apply_spine}
 use Rattle.sizes_meet_rules.proofs.Parameters.{Rest, all_rest}
-use Rattle.sizes_meet_rules.proofs.Wanting.{lambda_waits, as_alone, function_none}
+use Rattle.sizes_meet_rules.proofs.Wanting.{lambda_waits, as_alone}
 use Rattle.sizes_meet_rules.proofs.Heading.{headless, heads_there, judged_headed, known_headless}
 use Rattle.sizes_meet_rules.proofs.Functions.{Unmet, met_between}
 use Rattle.fut_sizes.specs.Functions.{function_size}
 use Rattle.sizes_meet_rules.proofs.Naming.{With_head, no_function, number_name}
-use Rattle.sizes_meet_rules.proofs.Using.{use_is, use_rules, used_itself}
+use Rattle.sizes_meet_rules.proofs.Using.{use_is, use_rules, used_itself, used_closed}
 use Rattle.sizes_meet_rules.proofs.Settling.{noted}
 use Rattle.sizes_meet_rules.proofs.Operating.{Size_written, Sizes_written, All_sizes_written, All_say, none_say, more_say, Gives, Written_named, Size_named, Sizes_named, number_is, operation_gives}
 
@@ -300,35 +300,33 @@ module _ (N : Names) (types : Sub) (home : ℕ → ℕ) (K : Kinds) (places : Ki
       by_form g (inl e) = e
       by_form g (inr e) = by_kind (n.function g)
         where
-          by_kind : ((p : Ty) × (r : Ty) × (types lo ≡ fun_ty p r)) ⊎ (types (home b.0) ≡ i64_ty) → types lo ≡ types (home b.0)
+          by_kind : ((p : Ty) × (r : Ty) × (types lo ≡ fun_ty p r)) ⊎ ((types (home b.0) ≡ i64_ty) ⊎ (types lo ≡ types (home b.0))) → types lo ≡ types (home b.0)
           by_kind (inl w) = absurd (no_function w.0 w.1 (sym e ∙ w.2))
-          by_kind (inr h) = e ∙ sym h
+          by_kind (inr (inl h)) = e ∙ sym h
+          by_kind (inr (inr h)) = h
 
       now : ◌≡◌ {A = Answer (Done Part)} (Ok (record { result = whole n.size; state = st })) (Ok d)
       now = ap (λ (o : Size). Ok (record { result = whole o; state = st })) (sym (use_is N types home In Vars scope b (types lo) n lo)) ∙ q
 
-  constant_part : (p : Primitive) (at : Place) (k : ℕ) → Law (Use (ref.Prim p) at k)
+  primitive_part : (p : Primitive) (at : Place) (k : ℕ) → Law (Use (ref.Prim p) at k)
   unfolding sized
-  constant_part p at k In Vars scope T lo st d pl t known E q = inl (record {
-    size = scalar_size c.sort;
+  primitive_part p at k In Vars scope T lo st d pl t known E q = inl (record {
+    size = prim_size p;
     is_whole = ap (λ (x : Done Part). x.result) (sym (same_ok now));
-    inner = subst (λ (x : Done Part). Inner N types home In Vars scope e lo (lo + numbers e) st (scalar_size c.sort) x.state) (same_ok now) (record {
-      says = scalar_says (With_met In lo (lo + numbers e)) Vars c.sort;
-      typed = constant_typed c.sort ∙ sym (constant_applied t.0 c.sort) ∙ ap (applied t.0) (sym c.type_is) ∙ sym t.2;
+    inner = subst (λ (x : Done Part). Inner N types home In Vars scope e lo (lo + numbers e) st (prim_size p) x.state) (same_ok now) (record {
+      says = closed_says p (With_met In lo (lo + numbers e)) Vars pl;
+      typed = closed_typed p t.0 pl ∙ sym t.2;
       kept = λ m o. refl;
       dropped = λ m o. refl;
-      rules = λ s G J z a. subst (Filled_use (λ v. true) (prim_size p)) (sym z) (subst (λ x. Filled_use (λ v. true) x (scalar_size c.sort)) (sym c.size_is) (used_itself (λ v. true) (scalar_size c.sort)));
+      rules = λ s G J z a. subst (Filled_use (λ v. true) (prim_size p)) (sym z) (used_itself (λ v. true) (prim_size p));
     });
   })
     where
       e : FlatTerm
       e = Use (ref.Prim p) at k
 
-      c : Constant p
-      c = constant_is p pl
-
-      now : ◌≡◌ {A = Answer (Done Part)} (Ok (record { result = whole (scalar_size c.sort); state = st })) (Ok d)
-      now = ap (λ (x : Size). Ok (record { result = whole x; state = st })) (sym (ap (used lo (types lo)) c.size_is ∙ constant_used lo (types lo) c.sort)) ∙ ap (λ (b : Bool). Ok (record { result = Applied (used lo (types lo) (prim_size p)) b []; state = st })) (sym c.regular) ∙ q
+      now : ◌≡◌ {A = Answer (Done Part)} (Ok (record { result = whole (prim_size p); state = st })) (Ok d)
+      now = ap (λ (x : Size). Ok (record { result = whole x; state = st })) (sym (used_closed lo (types lo) (prim_size p) (closed_is p pl).0)) ∙ ap (λ (b : Bool). Ok (record { result = Applied (used lo (types lo) (prim_size p)) b []; state = st })) (sym (closed_is p pl).1) ∙ q
 
   if_part : (c a b : FlatTerm) → Law c → Law a → Law b → Law (If c a b)
   unfolding sized
@@ -498,13 +496,12 @@ module _ (N : Names) (types : Sub) (home : ℕ → ℕ) (K : Kinds) (places : Ki
     known_sizes = λ before m z. lambda_knows bs p ps e le In Vars scope T lo hd pl t known (1 + lo + all_pattern_numbers (pattern_and p ps)) (1 + lo + all_pattern_numbers (pattern_and p ps) + numbers e) refl refl (subst (λ n. Elsewhere N types home lo n In) last E) before m
         (lambda_ran N types home K places bs (pattern_and p ps) e lo (1 + lo + all_pattern_numbers (pattern_and p ps)) (1 + lo + all_pattern_numbers (pattern_and p ps) + numbers e) data_places T pl.0 t.0.0 (with_head N types bs scope) before m z);
     of_function = (types (1 + lo), (arrows (pattern_types types ps (1 + lo + pattern_numbers p)) (types (1 + lo + all_pattern_numbers (pattern_and p ps))), t.1));
+    is_lambda = tt;
     typed_as = t.1;
     by_itself = λ before m z. subst (λ n. Meets N types home In Vars scope (Lambda (pattern_and p ps) e) lo n before m.result.size m.state) (sym last)
         (lambda_meets bs p ps e le In Vars scope T lo hd pl t known (1 + lo + all_pattern_numbers (pattern_and p ps)) (1 + lo + all_pattern_numbers (pattern_and p ps) + numbers e) refl refl (subst (λ n. Elsewhere N types home lo n In) last E) before m
         (lambda_ran N types home K places bs (pattern_and p ps) e lo (1 + lo + all_pattern_numbers (pattern_and p ps)) (1 + lo + all_pattern_numbers (pattern_and p ps) + numbers e) data_places T pl.0 t.0.0 (with_head N types bs scope) before m z));
     as_wanted = λ w σ before m f z. as_alone N types home K places bs (pattern_and p ps) e lo (with_head N types bs scope) w σ before m pl.0 f z;
-    chooses_none = λ before m z f. let R = lambda_ran N types home K places bs (pattern_and p ps) e lo (1 + lo + all_pattern_numbers (pattern_and p ps)) (1 + lo + all_pattern_numbers (pattern_and p ps) + numbers e) data_places T pl.0 t.0.0 (with_head N types bs scope) before m z in
-        subst (Chooses_none (pattern_and p ps)) (sym R.size) (function_none N types home K places bs (pattern_and p ps) (1 + lo) lo (1 + lo + all_pattern_numbers (pattern_and p ps) + numbers e) R.left pl.0 f);
   }
     where
       last : lo + numbers (Lambda (pattern_and p ps) e) ≡ 1 + lo + all_pattern_numbers (pattern_and p ps) + numbers e
@@ -549,12 +546,12 @@ module _ (N : Names) (types : Sub) (home : ℕ → ℕ) (K : Kinds) (places : Ki
   mutual
     pub term_part : (e : FlatTerm) → Law e
     term_part (Use (ref.Bound b) at k) = use_part b at k
-    term_part (Use (ref.Prim x) at k) = constant_part x at k
+    term_part (Use (ref.Prim x) at k) = primitive_part x at k
     term_part (Use (ref.Scalar x) at k) = λ In Vars scope T lo st d p t known E q. absurd p
     term_part (Strict o mark ts) = strict_part o mark ts (term_parts ts)
     term_part (Lambda no_pattern e) = λ In Vars scope T lo st d p t known E q. absurd p
     term_part (Lambda (pattern_and x ps) e) = lambda_part x ps e (term_part e)
-    term_part (Apply f e) = apply_part N types home K places data_places f e (apply_spine N types home K places data_places f e (spine_part f) (term_part e) (headed_part e))
+    term_part (Apply f e) = apply_part N types home K places data_places f e (apply_spine N types home K places data_places f e (spine_part f) (term_part e))
     term_part (Let b v e) = any_let N types home K places data_places b.sizes b.parameters b.is_function b.pattern v e (term_part v) (headed_part v) (term_part e)
     term_part (If c a b) = if_part c a b (term_part c) (term_part a) (term_part b)
     term_part (Loop mark sizes x first turns body) = loop_part sizes mark x first turns body (term_part first) (turns_part turns) (term_part body)
@@ -571,7 +568,7 @@ module _ (N : Names) (types : Sub) (home : ℕ → ℕ) (K : Kinds) (places : Ki
 
     spine_part : (f : FlatTerm) → Spine_law N types home K places data_places f
     spine_part (Use (ref.Bound b) at k) = use_spine N types home K places data_places b at k
-    spine_part (Apply f e) = apply_spine N types home K places data_places f e (spine_part f) (term_part e) (headed_part e)
+    spine_part (Apply f e) = apply_spine N types home K places data_places f e (spine_part f) (term_part e)
     spine_part (Use (ref.Prim x) at k) = primitive_spine N types home K places data_places x at k
     spine_part (Use (ref.Scalar x) at k) = λ lambda In Vars scope T lo st d p t known E q. absurd p
     spine_part (Strict o mark ts) = λ lambda In Vars scope T lo st d p t known E q. absurd p

@@ -1,5 +1,5 @@
 -- A lambda that is wanted of a type whose parameters have no arrays is sized as by itself, and then matched.
-use Rattle.std.proofs.Common.{◌≡◌, ℕ, zero, suc, ◌+◌, List, [], ◌∷◌, ◌++◌, true, cond, Option, Some, None, Ok, refl, sym, ap, ◌∙◌, subst}
+use Rattle.std.proofs.Common.{◌≡◌, ℕ, ◌+◌, List, [], ◌∷◌, ◌++◌, true, cond, Option, Some, None, Ok, refl, sym, ap, ◌∙◌, subst}
 use Rattle.fut_scalar.specs.declared.place.BindId.{BindId}
 use Rattle.fut_flat.specs.declared.prim.Ref.{Ref}
 use Rattle.fut_flat.specs.Numbers.{pattern_numbers, all_pattern_numbers, numbers}
@@ -8,18 +8,18 @@ use Rattle.fut_flat.specs.Erased.{FlatTerm, FlatPattern}
 use Rattle.fut_types.specs.declared.Kind.{Kind}
 use Rattle.fut_types.specs.Types.{Sub, Kinds}
 use Rattle.fut_typing.specs.Names.{Names}
-use Rattle.sized_types.specs.Sizes.{Free, binding, Dim, Size, Hole, Open, Level, Built, Fun, replaced}
+use Rattle.sized_types.specs.Sizes.{Dim, Size, Hole, Open, Level, Built, Fun, replaced}
 use Rattle.fut_sizes.specs.Agreeing.{Answer, then_do}
 use Rattle.fut_sizes.specs.Applications.{Want, Met}
-use Rattle.fut_sizes.specs.Functions.{sizes_in, Taking, is_own, without, is_met, frame_of, arrow, function_size, unchosen}
+use Rattle.fut_sizes.specs.Functions.{Taking, function_size, unchosen}
 use Rattle.fut_sizes.specs.Matching.{Found, nothing_found, none_opened, inside, dim_in, in_opened, data_way, function_way, meet}
 use Rattle.fut_sizes.specs.Scopes.{Scope, bound_by}
 use Rattle.fut_sizes.specs.Sizing.{Entered, wanted_size, open_frame, parameter_frame, all_part_names, leaving_function, in_pattern, own_sizes, entered, enter, enter_wanted, all_entered, none_left, matched, parameters_noted, finished, sized}
 use Rattle.fut_sizes.specs.Steps.{State, Done, Step, ask, and_then, note}
-use Rattle.sizes_meet_rules.specs.Plain.{Flat_type, Flat_parameters, Formed_type, Plain_pattern, Plain_patterns}
-use Rattle.sizes_meet_rules.proofs.Entering.{param_says, written_no_slot, takings}
-use Rattle.sizes_meet_rules.proofs.Flat_types.{flat, flat_replaced, flat_is, flat_met, flat_of_type, flat_closed, flat_collected}
-use Rattle.sizes_meet_rules.proofs.Meeting.{then_ok, asked, same_ok, As_alone, Chooses_none, Flat_wanted}
+use Rattle.sizes_meet_rules.specs.Plain.{Flat_type, Formed_type, Plain_pattern, Plain_patterns}
+use Rattle.sizes_meet_rules.proofs.Entering.{param_says, written_no_slot}
+use Rattle.sizes_meet_rules.proofs.Flat_types.{flat, flat_replaced, flat_is, flat_met, flat_of_type, flat_closed}
+use Rattle.sizes_meet_rules.proofs.Meeting.{then_ok, asked, same_ok, As_alone, Flat_wanted}
 use Rattle.sizes_meet_rules.proofs.Settling.{Is_settled, noted}
 
 pub then_is : {A B : Type 0} (x : Answer A) (f : A → Answer B) {a : A} {b : B} → x ≡ Ok a → f a ≡ Ok b → then_do x f ≡ Ok b
@@ -151,29 +151,3 @@ module _ (N : Names) (types : Sub) (home : ℕ → ℕ) (K : Kinds) (places : Ki
           state = W.state;
           met = ap (λ (υ : Found). meet w.node (function_way w.is_regular) lo none_opened w.size none_opened m.result.size υ) (sym R.1) ∙ W.met;
         }
-
-  -- ---- a function whose parameters have no arrays chooses no sizes
-
-  none_replaced : (g : ℕ → Dim → Dim) (ps : Patterns Ref BindId) (t : Size) (j : ℕ) → Chooses_none ps t → Chooses_none ps (replaced g j t)
-  unfolding replaced
-  none_replaced g no_pattern t j h = tt
-  none_replaced g (pattern_and p ps) (Fun zero q r) j h = none_replaced g ps r _ h
-  none_replaced g (pattern_and p ps) (Fun (suc k) q r) j h = absurd h
-  none_replaced g (pattern_and p ps) (Hole v) j h = absurd h
-  none_replaced g (pattern_and p ps) (Open m v u) j h = absurd h
-  none_replaced g (pattern_and p ps) (Level d t) j h = absurd h
-  none_replaced g (pattern_and p ps) (Built k ts) j h = absurd h
-
-  none_chosen : (bs : List ℕ) (p : FlatPattern) (q : ℕ) → Plain_pattern types home K places p q → Formed_type (types q) → Flat_type (types q) → sizes_in (is_own bs q) (in_pattern N types p (own_sizes N types q)) ≡ []
-  unfolding sizes_in
-  none_chosen bs p q h k f = ap (sizes_in (is_own bs q)) (ap (in_pattern N types p) (flat_own q f) ∙ flat_parameter p q h k f) ∙ flat_collected (is_own bs q) (types q) []
-
-  arrow_none : (p : FlatPattern) (ps : Patterns Ref BindId) (chosen met : List Free) (one : Taking) (r : Size) → chosen ≡ [] → Chooses_none ps r → Chooses_none (pattern_and p ps) (arrow chosen one met r)
-  arrow_none p ps chosen met one r e h = subst (λ c. Chooses_none (pattern_and p ps) (arrow c one met r)) (sym e) (none_replaced (binding (frame_of [] one met)) ps r 0 h)
-
-  pub function_none : (bs : List ℕ) (ps : Patterns Ref BindId) (q from to : ℕ) (r : Size) → Plain_patterns types home K places ps q → Flat_parameters types ps q → Chooses_none ps (function_size bs from to (takings N types home K places ps q) r)
-  unfolding function_size
-  function_none bs no_pattern q from to r h f = tt
-  function_none bs (pattern_and p no_pattern) q from to r h f = arrow_none p no_pattern (sizes_in (is_own bs q) (in_pattern N types p (own_sizes N types q))) (sizes_in (is_met from to) r) (record { pattern = p; node = q; size = in_pattern N types p (own_sizes N types q) }) r (none_chosen bs p q h.0 h.1 f.0) tt
-  function_none bs (pattern_and p (pattern_and p2 ps)) q from to r h f = arrow_none p (pattern_and p2 ps) (sizes_in (is_own bs q) (in_pattern N types p (own_sizes N types q))) [] (record { pattern = p; node = q; size = in_pattern N types p (own_sizes N types q) }) (function_size (without (sizes_in (is_own bs q) (in_pattern N types p (own_sizes N types q))) bs) from to (takings N types home K places (pattern_and p2 ps) (q + pattern_numbers p)) r) (none_chosen bs p q h.0 h.1 f.0)
-      (function_none (without (sizes_in (is_own bs q) (in_pattern N types p (own_sizes N types q))) bs) (pattern_and p2 ps) (q + pattern_numbers p) from to r h.3 f.1)

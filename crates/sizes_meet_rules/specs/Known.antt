@@ -32,15 +32,19 @@ abbrev pub is_i64_size : Size → Bool
 is_i64_size (Built h no_size) = head_i64 h
 is_i64_size t = false
 
+-- no size stands in it
+abbrev pub No_sizes : Size → Type 0
+No_sizes t = Each (λ j d. ⊥) 0 t
+
 -- nothing is open; what a function takes names the sizes that its caller chooses, and no others of its frame; what it gives names
--- the argument only where that is of type i64
+-- the argument only where that is of type i64; where no size stands in what it takes its caller chooses none
 unfoldable mutual
   pub Formed : Size → Type 0
   Formed (Hole v) = Unit {0}
   Formed (Open n v u) = ⊥
   Formed (Level d t) = Formed t
   Formed (Built h ts) = Is_made h × All_formed ts
-  Formed (Fun k p r) = Formed p × Formed r × Each (Of_positions (λ i. i < k)) 1 p × (is_i64_size p ≡ false → Each (Of_positions (λ i. i ≡ k → ⊥)) 1 r)
+  Formed (Fun k p r) = Formed p × Formed r × Each (Of_positions (λ i. i < k)) 1 p × (is_i64_size p ≡ false → Each (Of_positions (λ i. i ≡ k → ⊥)) 1 r) × (No_sizes p → k ≡ 0)
 
   pub All_formed : Sizes → Type 0
   All_formed no_size = Unit {0}
@@ -53,14 +57,14 @@ pub record Says (In : Free → Type 0) (Vars : Variable → Type 0) (t : Size) :
   pub formed : Formed t
 
 -- of a name that is used at a type. A general one is a function without type variables, used at the type of the pattern that
--- binds it, or a definition that is a number of type i64.
+-- binds it, or a definition that is a number of type i64, or one all of whose uses have its type.
 pub record Known_name (In : Free → Type 0) (Vars : Variable → Type 0) (types : Sub) (home : ℕ → ℕ) (scope : Scope) (b : ℕ) (t : Ty) : Type 0 where
   pub size : Size
   pub is_general : Bool
   pub known : scope b ≡ Some (record { size = size; is_general = is_general })
   pub says : Says In Vars size
   pub closed : is_general ≡ true → Each_hole (λ v. ⊥) size
-  pub function : is_general ≡ true → ((p : Ty) × (r : Ty) × (t ≡ fun_ty p r)) ⊎ (types (home b) ≡ i64_ty)
+  pub function : is_general ≡ true → ((p : Ty) × (r : Ty) × (t ≡ fun_ty p r)) ⊎ ((types (home b) ≡ i64_ty) ⊎ (t ≡ types (home b)))
   pub typed : (is_general ≡ true → t ≡ types (home b)) → erased size ≡ t
   pub number : is_i64_size size ≡ true → In (Name b)
 

@@ -1,6 +1,6 @@
 -- The terms of which the law speaks: names, operations, functions of data, lets of data and of functions, branches, loops and
--- applications of names and primitives to all of their arguments, which are data; a primitive may take one lambda whose parameters
--- have no arrays. Programs are of functions and numbers. A node that binds a name is the home of that name.
+-- applications of names and primitives to arguments of data; a primitive is applied to all that it takes, and one of them may be a
+-- function whose parameters have no arrays, and which gives data; where a name is applied to fewer, those that are left have none. Programs are of functions, numbers and other data without arrays. A node that binds a name is the home of that name.
 use Rattle.std.specs.Prelude.{◌≡◌, ◌⊎◌, ℕ, ◌+◌, Bool, true, false, List, [], ◌∷◌, None}
 use Rattle.fut_scalar.specs.declared.place.BindId.{BindId}
 use Rattle.fut_scalar.specs.declared.scalar.ScalarType.{ScalarType}
@@ -9,11 +9,12 @@ use Rattle.fut_flat.specs.declared.prim.Primitive.TheVariants as prim
 use Rattle.fut_flat.specs.declared.prim.Ref.{Ref}
 use Rattle.fut_flat.specs.declared.prim.Ref.TheVariants as ref
 use Rattle.fut_flat.specs.Numbers.{pattern_numbers, all_pattern_numbers, own_numbers, numbers, turn_numbers}
-use Rattle.fut_flat.specs.Terms.{Size_parameter, Type_parameter, Type_use, Array_type, Unique_type, Arrow_type, Tuple_type, Record_type, Type_terms, no_type, type_and, Coerce, Declared, Bound_pattern, Wild_pattern, Tuple_pattern, Record_pattern, Typed_pattern, Patterns, no_pattern, pattern_and, Parameter, Operation, Integer, Truth, Tuple_of, Record_of, Array_of, Binary, Negate, Complement, Index, Project, Update, Replace, Ascribe, Assert, Range, Use, Strict, Lambda, Apply, Let, If, Loop, Terms, no_term, term_and, Counted, Over, While}
+use Rattle.fut_flat.specs.Terms.{Size_parameter, Type_parameter, Type_use, Array_type, Unique_type, Arrow_type, Tuple_type, Record_type, Type_terms, no_arg, no_type, type_and, Coerce, Declared, Bound_pattern, Wild_pattern, Tuple_pattern, Record_pattern, Typed_pattern, Patterns, no_pattern, pattern_and, Parameter, Operation, Integer, Truth, Tuple_of, Record_of, Array_of, Binary, Negate, Complement, Index, Project, Update, Replace, Ascribe, Assert, Range, Use, Strict, Lambda, Apply, Let, If, Loop, Terms, no_term, term_and, Counted, Over, While}
 use Rattle.fut_flat.specs.Erased.{FlatTerm, FlatTurns, FlatPattern, FlatType}
 use Rattle.fut_types.specs.declared.Kind.{Kind}
 use Rattle.fut_types.specs.declared.Head.TheVariants as head
 use Rattle.fut_types.specs.Types.{Ty, Var, Made, Tys, none, more, Sub, Kinds, HasKind, scalar_ty}
+use Rattle.fut_typing.specs.Free.{is_free}
 use Rattle.fut_typing.specs.Names.{Names, AreNames}
 use Rattle.fut_typing.specs.Primitives.{i64_ty}
 use Rattle.fut_typing.specs.Program.{Defined}
@@ -52,15 +53,6 @@ unfoldable mutual
   Flat_types none = Unit {0}
   Flat_types (more t ts) = Flat_type t × Flat_types ts
 
--- a function whose parameters have no arrays
-abbrev pub Flat_parameters : Sub → Patterns Ref BindId → ℕ → Type 0
-Flat_parameters types no_pattern q = Unit {0}
-Flat_parameters types (pattern_and p ps) q = Flat_type (types q) × Flat_parameters types ps (q + pattern_numbers p)
-
-abbrev pub Lambda_flat : Sub → FlatTerm → ℕ → Type 0
-Lambda_flat types (Lambda ps e) lo = Flat_parameters types ps (1 + lo)
-Lambda_flat types e lo = ⊥
-
 -- a written type of data
 abbrev mutual
   pub Written_data : FlatType → Type 0
@@ -74,6 +66,23 @@ abbrev mutual
   pub All_written_data : Type_terms Ref BindId → Type 0
   All_written_data no_type = Unit {0}
   All_written_data (type_and e es) = Written_data e × All_written_data es
+
+-- of scalars and tuples
+abbrev mutual
+  pub Written_flat : FlatType → Type 0
+  Written_flat (Type_use (ref.Scalar s) no_arg) = Unit {0}
+  Written_flat (Tuple_type es) = All_written_flat es
+  Written_flat e = ⊥
+
+  pub All_written_flat : Type_terms Ref BindId → Type 0
+  All_written_flat no_type = Unit {0}
+  All_written_flat (type_and e es) = Written_flat e × All_written_flat es
+
+-- a definition's value, at a node, has one type in all uses: it is written, or that of truth values, or does not differ from use to use
+abbrev pub One_type : FlatTerm → ℕ → Type 0
+One_type (Strict (Declared e) mark ts) n = Written_flat e
+One_type (Strict (Truth b) mark ts) n = Unit {0}
+One_type v n = is_free false v n n ≡ false
 
 abbrev pub Is_scalar : Ty → Type 0
 Is_scalar t = (c : ScalarType) × (t ≡ scalar_ty c)
@@ -99,12 +108,18 @@ Plain_operation N (Ascribe e) t ts = Unit {0}
 Plain_operation N (Coerce e) t ts = Written_data e
 Plain_operation N (Declared e) t ts = Written_data e
 
--- a primitive that is a number
-abbrev pub Is_constant : Primitive → Type 0
-Is_constant (prim.Lowest own) = Unit {0}
-Is_constant (prim.Highest own) = Unit {0}
-Is_constant (prim.NumBits own) = Unit {0}
-Is_constant p = ⊥
+-- a primitive without type variables
+abbrev pub Is_closed : Primitive → Type 0
+Is_closed (prim.Lowest own) = Unit {0}
+Is_closed (prim.Highest own) = Unit {0}
+Is_closed (prim.NumBits own) = Unit {0}
+Is_closed (prim.Convert to from) = Unit {0}
+Is_closed (prim.Min own) = Unit {0}
+Is_closed (prim.Max own) = Unit {0}
+Is_closed (prim.Abs own) = Unit {0}
+Is_closed (prim.Popc own) = Unit {0}
+Is_closed prim.Iota = Unit {0}
+Is_closed p = ⊥
 
 -- a function under a name
 abbrev pub Is_lambda : FlatTerm → Type 0
@@ -119,6 +134,12 @@ abbrev pub Is_name : FlatPattern → Type 0
 Is_name (Bound_pattern b) = Unit {0}
 Is_name Wild_pattern = Unit {0}
 Is_name p = ⊥
+
+-- a name applied to arguments
+abbrev pub Is_call : FlatTerm → Type 0
+Is_call (Use (ref.Bound b) at k) = Unit {0}
+Is_call (Apply f e) = Is_call f
+Is_call e = ⊥
 
 -- size parameters alone
 abbrev pub Are_sizes : List (Parameter BindId) → Type 0
@@ -177,21 +198,22 @@ module _ (types : Sub) (home : ℕ → ℕ) (K : Kinds) (places : Kind) where
   Plain_let N true [] ps p v q = Plain_pattern p q × Is_bound p × Is_lambda v × Formed_type (types q) × Are_sizes ps × Plain_headed N (size_names ps) v (q + pattern_numbers p)
   Plain_let N is_function sizes parameters p v q = ⊥
 
-  -- a lambda whose parameters have no arrays, and which gives data
-  abbrev pub Plain_lambda : FlatTerm → ℕ → Type 0
-  Plain_lambda (Lambda (pattern_and p ps) e) lo = Flat_parameters types (pattern_and p ps) (1 + lo) × HasKind K places (types (1 + lo + all_pattern_numbers (pattern_and p ps)))
-  Plain_lambda e lo = ⊥
+  -- a function of parameters without arrays, which gives data
+  abbrev pub Flat_function : Ty → Type 0
+  Flat_function (Made head.Fun (more p (more r none))) = Flat_type p × (HasKind K places r ⊎ Flat_function r)
+  Flat_function t = ⊥
 
   module _ (N : Names) where
     abbrev mutual
       pub Plain_term : FlatTerm → ℕ → Type 0
       -- a name is used at the type of the node that binds it, or is a number as a size name is
       Plain_term (Use (ref.Bound b) at k) lo = (types lo ≡ types (home b.0)) ⊎ (types lo ≡ i64_ty)
-      Plain_term (Use (ref.Prim p) at k) lo = Is_constant p
+      Plain_term (Use (ref.Prim p) at k) lo = Is_closed p
       Plain_term (Strict o mark ts) lo = Plain_operation N o (types lo) ts × Plain_terms ts (lo + own_numbers o)
       Plain_term (Lambda (pattern_and p ps) e) lo = Plain_patterns (pattern_and p ps) (1 + lo) × Plain_term e (1 + lo + all_pattern_numbers (pattern_and p ps))
-      -- a function by its name, or a primitive, applied to all of its arguments: the result is data, and so are these, but for a lambda
-      Plain_term (Apply f e) lo = HasKind K places (types lo) × (((HasKind K places (types (1 + lo + numbers f)) × Plain_spine false f (1 + lo)) ⊎ ((false ≡ false) × Plain_lambda e (1 + lo + numbers f) × Plain_spine true f (1 + lo))) × Plain_term e (1 + lo + numbers f))
+      -- a function by its name, or a primitive, applied to arguments of data; a primitive may take one function of parameters without
+      -- arrays, which gives data. The result is data; a function by its name may have arguments left, in which are no arrays
+      Plain_term (Apply f e) lo = (HasKind K places (types lo) ⊎ (Flat_function (types lo) × Is_call f)) × (((HasKind K places (types (1 + lo + numbers f)) × Plain_spine false f (1 + lo)) ⊎ ((false ≡ false) × Flat_function (types (1 + lo + numbers f)) × Plain_spine true f (1 + lo))) × Plain_term e (1 + lo + numbers f))
       Plain_term (Let b v e) lo = Plain_let N b.is_function b.sizes b.parameters b.pattern v (1 + lo) × (composition b e ≡ None)
           × (HasKind K places (types (1 + lo + pattern_numbers b.pattern)) ⊎ (Is_lambda v × Is_bound b.pattern)) × Plain_term v (1 + lo + pattern_numbers b.pattern) × Plain_term e (1 + lo + pattern_numbers b.pattern + numbers v)
       Plain_term (If c a b) lo = Plain_term c (1 + lo) × Plain_term a (1 + lo + numbers c) × Plain_term b (1 + lo + numbers c + numbers a)
@@ -199,11 +221,11 @@ module _ (types : Sub) (home : ℕ → ℕ) (K : Kinds) (places : Kind) where
           × Plain_turns turns (1 + lo + pattern_numbers p + numbers first) × Plain_term body (1 + lo + pattern_numbers p + numbers first + turn_numbers turns)
       Plain_term e lo = ⊥
 
-      -- a name, applied to arguments of data, or a primitive, applied to data and one lambda, where it is told whether it stands behind
+      -- a name, applied to arguments of data, or a primitive, applied to data and one function, where it is told whether it stands behind
       pub Plain_spine : Bool → FlatTerm → ℕ → Type 0
       Plain_spine lambda (Use (ref.Bound b) at k) lo = (lambda ≡ false) × (types lo ≡ types (home b.0))
       Plain_spine lambda (Use (ref.Prim p) at k) lo = Unit {0}
-      Plain_spine lambda (Apply f e) lo = ((HasKind K places (types (1 + lo + numbers f)) × Plain_spine lambda f (1 + lo)) ⊎ ((lambda ≡ false) × Plain_lambda e (1 + lo + numbers f) × Plain_spine true f (1 + lo))) × Plain_term e (1 + lo + numbers f)
+      Plain_spine lambda (Apply f e) lo = ((HasKind K places (types (1 + lo + numbers f)) × Plain_spine lambda f (1 + lo)) ⊎ ((lambda ≡ false) × Flat_function (types (1 + lo + numbers f)) × Plain_spine true f (1 + lo))) × Plain_term e (1 + lo + numbers f)
       Plain_spine lambda e lo = ⊥
 
       pub Plain_terms : Terms Ref BindId → ℕ → Type 0
@@ -224,8 +246,13 @@ module _ (types : Sub) (home : ℕ → ℕ) (K : Kinds) (places : Kind) where
     Number_definition [] v lo = (types lo ≡ i64_ty) × Plain_term v (lo + 1)
     Number_definition ps v lo = ⊥
 
+    -- one of other data without arrays, which has one type in all uses
+    abbrev pub Flat_definition : List (Parameter BindId) → FlatTerm → ℕ → Type 0
+    Flat_definition [] v lo = Flat_type (types lo) × (types lo ≡ i64_ty → ⊥) × One_type v (lo + 1) × Plain_term v (lo + 1)
+    Flat_definition ps v lo = ⊥
+
     abbrev pub Plain_definition : FlatPattern → List (Parameter BindId) → FlatTerm → ℕ → Type 0
-    Plain_definition (Bound_pattern b) ps v lo = (home b.0 ≡ lo) × (Function_definition ps v lo ⊎ Number_definition ps v lo)
+    Plain_definition (Bound_pattern b) ps v lo = (home b.0 ≡ lo) × (Function_definition ps v lo ⊎ (Number_definition ps v lo ⊎ Flat_definition ps v lo))
     Plain_definition p ps v lo = ⊥
 
     abbrev pub Plain_definitions : List Defined → ℕ → Type 0

@@ -3,13 +3,14 @@
 //! `fut_sizes` has both: a function by structure, which gives each node of a term a sized type or the first refusal, and one rule a
 //! form, which a sizing is judged by; what is proved of values (`sized_meaning`) hangs on the rules alone. Here the one is joined to
 //! the other, for the terms of `specs/Plain.antt`: names, all operations, functions of data, lets of data, local functions without
-//! type variables, loops, branches, a name's function applied to all of its arguments, which are data, and a primitive applied to all
-//! of its arguments: data, and where it takes a function a lambda whose parameters have no arrays; the results of all these are data;
+//! type variables, loops, branches, a name's function applied to arguments of data, to all or so that no array is among those left, and a primitive applied to
+//! all of its arguments: data, and where it takes a function one whose parameters have no arrays and which gives data, be it a lambda, a name, a section
+//! or what another term gives; the results of all these are data;
 //! patterns are names and parts of tuples and records, with written types or without, and one name with a written type may name
 //! sizes; functions under a name may have size parameters; and for programs whose definitions are functions of such terms, or such
-//! terms of type i64, which are sizes for those behind them. Of others nothing is claimed yet: other applications (to fewer
-//! arguments, to other functions), general names with type variables, sizes that parts of a pattern name, parameters of type
-//! variables, written types of functions, other definitions that are no functions. `proofs/Unmet.antt` has what a rule asks and the pass does not give.
+//! terms of type i64, which are sizes for those behind them, or of another type without arrays that is the same in all uses. Of others nothing is claimed yet: other applications (of primitives to
+//! fewer arguments, to other functions), general names with type variables, sizes that parts of a pattern name, parameters of type
+//! variables, written types of functions, definitions of arrays. `proofs/Unmet.antt` has what a rule asks and the pass does not give.
 //!
 //! `specs/Known.antt` says what is known of the names in scope. The proof goes by structure (`proofs/Walking.antt`): of each term
 //! it says which sizes stand in its sized type, which nodes are noted, and that they meet the rules (`proofs/Meeting.antt`). A
