@@ -51,7 +51,7 @@ sizes_in (Size_parameter y ∷ hs) made ls x e = either (bytes_eq y.name x) refl
 sizes_in (Type_parameter y lifted ∷ hs) made ls x e = sizes_in hs (with_text made y.name) ls x e
 
 pub reads_hiding : (hs : List (Parameter Label)) (made : List Text) {sc : Scope} {outside : Outside} → Reads sc (entered (number_heads hs made).0.1 []) outside → Reads sc (entered (number_heads hs made).0.1 []) (hiding hs outside)
-reads_hiding hs made {sc} {outside} r = record { reads = reads; upto = r.upto; under = r.under }
+reads_hiding hs made {sc} {outside} r = record { reads = reads; under = r.under }
   where
     same : (x : Text) (rest : Path) (t : Bool) → is_size_name hs x ≡ t → local_or (entered (number_heads hs made).0.1 []) x rest (outside (x ∷ rest)) ≡ local_or (entered (number_heads hs made).0.1 []) x rest (cond t Names_nothing (outside (x ∷ rest)))
     same x rest true e = hidden_or (entered (number_heads hs made).0.1 []) x rest _ _ (sizes_in hs made [] x e)

@@ -1,176 +1,141 @@
--- The flat definitions that elaboration makes stand for those of the files.
-use Rattle.std.proofs.Common.{◌≡◌, ℕ, suc, ◌+◌, ◌<◌, ◌≤◌, ◌++◌, List, [], ◌∷◌, Bool, true, false, cond, Option, Some, None, Result, Ok, Err, refl, sym, ap, ◌∙◌, subst, arith, length}
-use Rattle.std.specs.Str.{bytes_eq}
+-- The flat program of what files declare stands for the files, and binds each number once.
+use Rattle.std.proofs.Common.{◌≡◌, ◌<◌, Bool, Result, Err, ℕ, suc, ◌+◌, ◌≤◌, List, [], ◌∷◌, map, true, false, Option, Some, None, Ok, refl, sym, ◌∙◌, subst, arith, length, flat_map, IsPermutation}
+use Rattle.std.specs.List.{range_with_len}
 use Rattle.fut_scalar.specs.declared.place.BindId.{BindId}
-use Rattle.fut_scalar.specs.declared.place.Place.{Place}
 use Rattle.fut_ast.specs.Sorts.{Text}
-use Rattle.fut_ast.specs.declared.node.Label.{Label}
-use Rattle.fut_ast.specs.declared.pat.Head.{Head}
-use Rattle.fut_ast.specs.declared.module.Dec.{Dec}
-use Rattle.fut_ast.specs.declared.module.DecForm.{DecForm-F, out-DecForm}
-use Rattle.fut_ast.specs.declared.module.Program.{Program}
 use Rattle.fut_flat.specs.Numbers.{numbers}
-use Rattle.fut_flat.specs.Sources.{SourceTerm, source_parameters}
+use Rattle.elab_scopes.specs.Scopes.{Module_ref, World, a_world, value_in, world_of}
 use Rattle.elab_scopes.specs.Names.{Refusal}
-use Rattle.elab_scopes.specs.Scopes.{a_value, Scope, value_in, world_of, enter}
-use Rattle.elab_scopes.specs.Resolve.{Numbered, next, with_text, number_heads}
-use Rattle.elab_scopes.specs.Programs.{FlatDefinition, define, definition_term, is_entry_named, has_text, DecLayer, Seen, Defined, behind, resolve_dec_form, resolve_dec, resolve_decs, new_file, resolve_files, FlatProgram, program_of, resolve_program}
-use Rattle.fut_meaning.specs.Flats.{flat_tops}
-use Rattle.fut_meaning.specs.Found.{Sizing}
-use Rattle.fut_meaning.specs.Sources.{Outside}
-use Rattle.fut_meaning.specs.Uses.{Parameter_sizes}
-use Rattle.fut_meaning.specs.Resolved.{Locals, Resolved, Sizes_hide, Definitions_resolved, no_definition, definition_and}
+use Rattle.elab_scopes.specs.Programs.{FlatProgram}
+use Rattle.elab_scopes.specs.Elaboration.{Declare, Elaborates, answer_of, flats, flat_program}
+use Rattle.elab_scopes.specs.Imports.{Source_file}
+use Rattle.elab_scopes.specs.Declarations.{Instance, State, declared_by}
+use Rattle.fut_flat.specs.Sources.{source_parameters}
+use Rattle.fut_meaning.specs.Datums.{Datum, as_value, all_values}
+use Rattle.fut_meaning.specs.Found.{Sizing, Told}
+use Rattle.fut_meaning.specs.Meaning.{plain}
+use Rattle.fut_meaning.specs.Outcomes.{Out, Val, Fail}
+use Rattle.fut_meaning.specs.Programs.{Program_means}
+use Rattle.fut_meaning.specs.Sames.{Same, Left, Right}
+use Rattle.fut_meaning.specs.Sources.{SourceValue, Source_means}
+use Rattle.fut_meaning.specs.Flats.{FlatValue, flat_names, flat_tops}
+use Rattle.fut_meaning.specs.Resolved.{Resolved, Sizes_hide, Definitions_resolved, no_definition, definition_and, Sees_below}
 use Rattle.fut_meaning.proofs.SameNumbers.{numbers_same}
 use Rattle.fut_meaning.proofs.SamePrograms.{program_sim}
 use Rattle.fut_meaning.proofs.Sims.{go_back, go_forth}
-use Rattle.elab_laws.specs.Sized.{Sizes_are_told}
-use Rattle.elab_laws.proofs.Told.{Told, definition_told}
-use Rattle.elab_laws.proofs.OwnSizes.{reads_hiding, sees_hiding, sizes_hide}
-use Rattle.elab_laws.specs.Sourced.{outside_of, hiding, Written, source_tops, written_form, written_decs, written, binds, named_values}
 use Rattle.fut_meaning.proofs.SameData.{all_datums_same, source_allows, source_reports, flat_allows, flat_reports}
-use Rattle.elab_laws.specs.Claims.{ElaboratedAddsNothing, ElaboratedLosesNothing, SameReports, SameResults}
-use Rattle.elab_laws.proofs.Readings.{World_under, Reads, reads_outside, entered, reads_entered, sees_below}
-use Rattle.elab_laws.proofs.Grown.{went, ok_part, ok_rest, More, more_text}
-use Rattle.elab_laws.proofs.Terms.{term_so, heads_more, heads_local}
+use Rattle.elab_laws.specs.Binders.{definition_binders}
+use Rattle.elab_laws.specs.OnceClaims.{defined_of, definitions_of, EachIsBoundOnce}
+use Rattle.elab_laws.specs.Sized.{Sizes_are_told}
+use Rattle.elab_laws.specs.Sourced.{outside_of, hiding, named_values, declared_tops, source_of, flat_of}
+use Rattle.elab_laws.proofs.OwnSizes.{sees_hiding}
+use Rattle.elab_laws.proofs.Filled.{Filled, fill_none, fill_both}
+use Rattle.elab_laws.proofs.OnceDefinitions.{flat_binders, define_filled}
+use Rattle.elab_laws.proofs.Definitions.{define_so}
+use Rattle.elab_laws.proofs.Readings.{Such, any_number, World_under, world_up, sees_below}
+use Rattle.elab_laws.specs.Claims.{DeclaredAddsNothing, DeclaredLosesNothing, SameReports, SameResults}
+use Rattle.elab_laws.proofs.Deeper.{files_come_to_one, declared_is_elaborated}
+use Rattle.elab_laws.proofs.Keeping.{Good, Chain, chain_none, chain_more}
+use Rattle.elab_laws.proofs.Walking.{declared_fine}
 
--- definitions resolved one after the other
-pub data Run : Scope → List Text → List Written → List FlatDefinition → Scope → List Text → Type 0 where
-  run_none : {sc : Scope} {made : List Text} → Run sc made [] [] sc made
-  run_more : {sc sc' : Scope} {made m made' : List Text} {ws : List Written} {d : FlatDefinition} {fs : List FlatDefinition} (file : ℕ) (is_entry : Bool) (x : Text) (heads : List Head) (value : SourceTerm) → Told value → define file is_entry x heads value sc made ≡ Ok (d, m) → Run (a_value x d.bind ∷ sc) m ws fs sc' made' → Run sc made (record { name = x; parameters = source_parameters heads; value = value } ∷ ws) (d ∷ fs) sc' made'
+-- ---- what a definition sees
 
-run-append : {sc sc1 sc2 : Scope} {m m1 m2 : List Text} {ws us : List Written} {fs gs : List FlatDefinition} → Run sc m ws fs sc1 m1 → Run sc1 m1 us gs sc2 m2 → Run sc m (ws ++ us) (fs ++ gs) sc2 m2
-run-append run_none s = s
-run-append (run_more file is_entry x heads value t e r) s = run_more file is_entry x heads value t e (run-append r s)
+at_world : (S : Such) (w : World) → World_under S w → World_under S (world_of (a_world w ∷ []))
+unfolding world_of
+at_world S w u = u
 
--- from what was seen before some definitions to what is seen behind them
-abbrev Goes : Seen → List Written → List FlatDefinition → Seen → Type 0
-Goes s ws fs s' = Run s.scope s.made ws fs s'.scope s'.made
+no_value : (w : World) (x : Text) (b : BindId) → value_in (a_world w ∷ []) x ≡ Some b → ⊥
+unfolding value_in
+no_value w x b e = let z : None ≡ Some b = e in cc
 
-behind_is : {C : Type 0} (x : Text) (s s' : Seen) (d : FlatDefinition) (r : Numbered FlatDefinition) → behind x s r ≡ Ok (d, s') → ((m : List Text) → r ≡ Ok (d, m) → s'.scope ≡ a_value x d.bind ∷ s.scope → s'.made ≡ m → C) → C
-behind_is x s s' d (Ok (c, m)) e k = k m (ap (λ z. Ok (z, m)) (ok_part e)) (ap (λ z. z.scope) (sym (ok_rest e)) ∙ ap (λ z. a_value x z.bind ∷ s.scope) (ok_part e)) (ap (λ z. z.made) (sym (ok_rest e)))
-behind_is x s s' d (Err w) e k = absurd (let z : ◌≡◌ {A = Defined FlatDefinition} (Err w) (Ok (d, s')) = e in cc)
+world_sees : (n m : ℕ) (w : World) → n ≤ m → World_under (λ k. k < n) w → Sees_below m (outside_of (a_world w ∷ []))
+world_sees n m w le u =
+    let s = sees_below n (a_world w ∷ []) (λ x b e. elim (no_value w x b e) [ ]) (at_world (λ k. k < n) w u) in
+    record { below = λ p r j h. let b = s.below p r j h in omega (arith, b, le) }
 
-not_refused : {C A : Type 0} (w : Refusal) (z : A) → ◌≡◌ {A = Result A Refusal} (Err w) (Ok z) → C
-not_refused {C} {A} w z e = absurd (let y : ◌≡◌ {A = Result A Refusal} (Err w) (Ok z) = e in cc)
+-- ---- all definitions
 
-chosen : {C A : Type 0} (t : Bool) (w : Refusal) (r : Result A Refusal) (z : A) → cond t (Err w) r ≡ Ok z → (r ≡ Ok z → C) → C
-chosen true w r z e k = not_refused w z e
-chosen false w r z e k = k e
-
-def_goes : (file : ℕ) (is_entry : Bool) (x : Label) (heads : List Head) (value : SourceTerm) (s s' : Seen) (d : FlatDefinition) → Told value → behind x.name s (define file is_entry x.name heads value s.scope s.made) ≡ Ok (d, s') → Goes s (record { name = x.name; parameters = source_parameters heads; value = value } ∷ []) (d ∷ []) s'
-def_goes file is_entry x heads value s s' d t e =
-    behind_is x.name s s' d _ e (λ m h i j. run_more file is_entry x.name heads value t h (subst (λ z. Run (a_value x.name d.bind ∷ s.scope) m [] [] z s'.made) (sym i) (subst (λ z. Run (a_value x.name d.bind ∷ s.scope) m [] [] (a_value x.name d.bind ∷ s.scope) z) (sym j) run_none)))
-
-form_goes : (file : ℕ) (at : Place) (l : DecLayer) (s s' : Seen) (d : FlatDefinition) → resolve_dec_form file at l s ≡ Ok (d, s') → Goes s (written_form l) (d ∷ []) s'
-form_goes file at (DecForm-F.Def is_entry x heads ps t e) s s' d h = chosen (has_text s.own x.name) _ _ (d, s') h (def_goes file (is_entry_named is_entry x.name) x heads (definition_term ps t e) s s' d (definition_told ps t e))
-form_goes file at l s s' d h = not_refused _ (d, s') h
-
-dec_goes : (file : ℕ) (dec : Dec) (s s' : Seen) (d : FlatDefinition) → resolve_dec file dec s ≡ Ok (d, s') → Goes s (written_form (out-DecForm dec.form)) (d ∷ []) s'
-dec_goes file dec s s' d h = chosen dec.local _ _ (d, s') h (form_goes file dec.place (out-DecForm dec.form) s s' d)
-
-goes_end : (s : Seen) {m s' : Seen} {ws : List Written} {fs gs : List FlatDefinition} → Goes s ws fs m → ◌≡◌ {A = Defined (List FlatDefinition)} (Ok (fs, m)) (Ok (gs, s')) → Goes s ws gs s'
-goes_end s {m} {s'} {ws} {fs} {gs} r e = subst (λ z. Goes s ws z s') (ok_part e) (subst (λ z. Goes s ws fs z) (ok_rest e) r)
-
-decs_go : (file : ℕ) (ds : List Dec) (s s' : Seen) (fs : List FlatDefinition) → resolve_decs file ds s ≡ Ok (fs, s') → Goes s (written_decs ds) fs s'
-unfolding resolve_decs
-decs_go file [] s s' fs e = goes_end s run_none e
-decs_go file (d ∷ ds) s s' fs e = went _ _ _ e (λ a m h g. went _ _ _ g (λ as' n i q. goes_end s (run-append (dec_goes file d s m a h) (decs_go file ds m n as' i)) q))
-
-pub files_go : (file : ℕ) (ps : List Program) (s s' : Seen) (fs : List FlatDefinition) → resolve_files file ps s ≡ Ok (fs, s') → Goes s (written ps) fs s'
-unfolding resolve_files
-files_go file [] s s' fs e = goes_end s run_none e
-files_go file (p ∷ ps) s s' fs e = went _ _ _ e (λ a m h g. went _ _ _ g (λ b n i q. goes_end s (run-append (decs_go file p.decs (new_file s) m a h) (files_go (suc file) ps m n b i)) q))
-
--- ---- each definition
-
-pub record Defined_so (z : Option Sizing) (outside : Outside) (made m : List Text) (d : FlatDefinition) (value : SourceTerm) : Type 0 where
-  pub bind : d.bind.0 ≡ length made
-  pub more : suc (length made) ≤ length m
-  pub upto : ℕ
-  pub locals : Locals
-  pub hide : Sizes_hide z (suc (length made)) outside locals upto
-  pub resolved : Resolved upto locals outside value d.value
-
-pub define_so : (z : Option Sizing) (file : ℕ) (is_entry : Bool) (x : Text) (heads : List Head) (value : SourceTerm) (sc : Scope) (made m : List Text) (d : FlatDefinition) (n : ℕ) → World_under n (world_of sc) → Parameter_sizes z d.parameters → Told value → define file is_entry x heads value sc made ≡ Ok (d, m) → Defined_so z (hiding (source_parameters heads) (outside_of sc)) made m d value
-unfolding define
-define_so z file is_entry x heads value sc made m d k u s p e =
-    went _ _ _ e (λ h o i g. went _ _ _ g (λ v l j q.
-    let hs = source_parameters heads in
-    let numbered = number_heads hs (with_text made x) in
-    let same : numbered.0 ≡ h = ok_part i in
-    let le : More (with_text made x) o = subst (λ z. More (with_text made x) z) (ok_rest i) (heads_more hs (with_text made x)) in
-    let rd : Reads (enter h.1 sc) (entered numbered.0.1 []) (hiding hs (outside_of sc)) = subst (λ z. Reads (enter z.1 sc) (entered numbered.0.1 []) (hiding hs (outside_of sc))) same (reads_hiding hs (with_text made x) (reads_entered numbered.0.1 (heads_local hs (with_text made x)) (reads_outside k sc u))) in
-    let y = term_so value (enter h.1 sc) o l v (entered numbered.0.1 []) (hiding hs (outside_of sc)) p rd j in
-    let sized : Parameter_sizes z numbered.0.0 = subst (Parameter_sizes z) (sym (ap (λ w. w.0) same ∙ ap (λ w. w.parameters) (ok_part q))) s in
-    let hidden : Sizes_hide z (suc (length made)) (hiding hs (outside_of sc)) (entered numbered.0.1 []) (length o) = subst (λ w. Sizes_hide z (suc (length made)) (hiding hs (outside_of sc)) (entered numbered.0.1 []) (length w)) (ok_rest i) (sizes_hide hs (with_text made x) (outside_of sc) (omega (arith, more_text made x)) sized) in
-    subst (λ w. Defined_so z (hiding hs (outside_of sc)) made m w value) (ok_part q)
-    (subst (λ w. Defined_so z (hiding hs (outside_of sc)) made w (record { bind = next made; parameters = h.0; value = v; is_entry = is_entry; file = file }) value) (ok_rest q)
-    (record { bind = refl; more = omega (arith, more_text made x, le, y.more); upto = length o; locals = entered numbered.0.1 []; hide = hidden; resolved = y.resolved }))))
-
--- the values of a scope have numbers below n, in the world too
-pub record Below (n : ℕ) (sc : Scope) : Type 0 where
-  pub below : (x : Text) (b : BindId) → value_in sc x ≡ Some b → b.0 < n
-  pub outer : (k : ℕ) → World_under k (world_of sc)
-
-below_value : {n m : ℕ} {sc : Scope} (x : Text) (b : BindId) → n ≤ m → b.0 < m → Below n sc → Below m (a_value x b ∷ sc)
-unfolding value_in world_of
-below_value {n} {m} {sc} x b le lt r = record { outer = r.outer; below = λ y c e. either (bytes_eq x y) (value_in sc y) c e (λ h. omega (arith, r.below y c h, le)) }
-  where
-    some_is : (c : BindId) → Some b ≡ Some c → b ≡ c
-    some_is c h = cc
-
-    either : (t : Bool) (o : Option BindId) (c : BindId) → cond t (Some b) o ≡ Some c → (o ≡ Some c → c.0 < m) → c.0 < m
-    either true o c e k = subst (λ z. z.0 < m) (some_is c e) lt
-    either false o c e k = k e
-
-tops_resolved : {z : Option Sizing} {sc sc' : Scope} {made made' : List Text} {ws : List Written} {fs : List FlatDefinition} (lo : ℕ) → Run sc made ws fs sc' made' → Below (length made) sc → Sizes_are_told z lo fs → Definitions_resolved z (length made) (source_tops lo sc ws (binds fs)) (flat_tops lo (named_values fs))
+tops_resolved : {z : Option Sizing} {all : List Instance} {n m : ℕ} {is : List Instance} (lo : ℕ) → Chain all n is m → Sizes_are_told z lo (flats is) → Definitions_resolved z n (declared_tops lo is) (flat_tops lo (named_values (flats is)))
 unfolding flat_tops
-tops_resolved lo run_none b p = no_definition
-tops_resolved {z} {sc} {made = made} lo (run_more {m = m} {ws = ws} {d} {fs} file is_entry x heads value t e r) b p =
-    let hs = source_parameters heads in
-    let y = define_so z file is_entry x heads value sc made m d 0 (b.outer 0) p.0 t e in
-    let le : length made ≤ length m = omega (arith, y.more) in
-    let lt : d.bind.0 < length m = omega (arith, y.bind, y.more) in
-    let many : numbers value ≡ numbers d.value = numbers_same y.resolved in
-    let rest = tops_resolved {z = z} (lo + (1 + numbers value)) r (below_value x d.bind le lt b) (subst (λ k. Sizes_are_told z (lo + (1 + k)) fs) (sym many) p.2) in
-    definition_and refl refl (omega (arith, y.bind)) lt
-    (sees_hiding hs (sees_below (suc d.bind.0) sc (λ z c h. omega (arith, b.below z c h, y.bind)) (b.outer (suc d.bind.0))))
-    (subst (λ k. Sizes_hide z (suc k) (hiding hs (outside_of sc)) y.locals y.upto) (sym y.bind) y.hide)
-    y.resolved
+tops_resolved lo chain_none p = no_definition
+tops_resolved {z} lo (chain_more {n = n} {k = k} {m = m} {i = i} {is = is} g c) p =
+    let hs = source_parameters i.heads in
+    let y = define_so z g.file g.is_entry g.name i.heads i.value (a_world g.world ∷ []) g.made g.made' i.flat (at_world any_number g.world (world_up (λ k h. tt) g.under)) p.0 g.told g.resolved in
+    let number : i.flat.bind.0 ≡ n = y.bind ∙ g.first in
+    let many : numbers i.value ≡ numbers i.flat.value = numbers_same y.resolved in
+    let rest = tops_resolved {z = z} (lo + (1 + numbers i.value)) c (subst (λ j. Sizes_are_told z (lo + (1 + j)) (flats is)) (sym many) p.2) in
+    definition_and refl refl (omega (arith, number)) (omega (arith, number, y.more, g.first, g.last))
+    (subst (λ sc. Sees_below (suc i.flat.bind.0) (hiding hs (outside_of sc))) (sym g.outside) (sees_hiding hs (world_sees n (suc i.flat.bind.0) g.world (omega (arith, number)) g.under)))
+    (subst (λ sc. Sizes_hide z (suc i.flat.bind.0) (hiding hs (outside_of sc)) y.locals y.upto) (sym g.outside) (subst (λ j. Sizes_hide z (suc j) (hiding hs (outside_of (a_world g.world ∷ []))) y.locals y.upto) (sym y.bind) y.hide))
+    (subst (λ sc. Resolved y.upto y.locals (hiding hs (outside_of sc)) i.value i.flat.value) (sym g.outside) y.resolved)
     p.1
-    (subst (λ k. Definitions_resolved z (length m) (source_tops (lo + (1 + numbers value)) (a_value x d.bind ∷ sc) ws (binds fs)) (flat_tops (lo + (1 + k)) (named_values fs))) many rest)
+    (subst (λ j. Definitions_resolved z k (declared_tops (lo + (1 + numbers i.value)) is) (flat_tops (lo + (1 + j)) (named_values (flats is)))) many rest)
 
--- ---- programs
+pub declared : (files : List Source_file) (s : State) (z : Option Sizing) → Declare files s → Sizes_are_told z 0 (flats s.instances) → Definitions_resolved z 0 (source_of s) (flat_of (flat_program s))
+declared files s z d p = tops_resolved 0 (declared_fine files s d).chain p
 
-pub program_is : {C : Type 0} (r : Defined (List FlatDefinition)) (flat : FlatProgram) → program_of r ≡ Ok flat → ((s : Seen) → r ≡ Ok (flat.definitions, s) → C) → C
-program_is (Ok (ds, s)) flat e k = k s (ap (λ z. Ok (z.definitions, s)) (same_program e))
+pub declared_adds_nothing : DeclaredAddsNothing
+declared_adds_nothing files st d told p tight budget entry vs ws s o f x = go_back (program_sim told tight budget entry true (declared files st told.sizes d p) s) o f x
+
+pub declared_loses_nothing : DeclaredLosesNothing
+declared_loses_nothing files st d told p tight budget entry vs ws s o f x = go_forth (program_sim told tight budget entry false (declared files st told.sizes d p) s) o f x
+
+-- ---- the flat program of files
+
+-- a flat program is that of what the files declare
+pub declared_of : (files : List Source_file) (flat : FlatProgram) → Elaborates files (Ok flat) → (s : State) × Declare files s × (flat_program s ≡ flat)
+declared_of files flat e = of (declared_by e.depth files) refl e.is
   where
-    same_program : {a b : FlatProgram} → ◌≡◌ {A = Result FlatProgram Refusal} (Ok a) (Ok b) → a ≡ b
-    same_program h = cc
-program_is (Err w) flat e k = not_refused w flat e
+    of : (r : Result (Module_ref × State) Refusal) → declared_by e.depth files ≡ r → answer_of r ≡ Ok flat → (s : State) × Declare files s × (flat_program s ≡ flat)
+    of (Ok (m, s)) d a = (s, record { depth = e.depth; run = m; is = d }, let z : ◌≡◌ {A = Result FlatProgram Refusal} (Ok (flat_program s)) (Ok flat) = a in cc)
+    of (Err x) d a = absurd (let z : ◌≡◌ {A = Result FlatProgram Refusal} (Err x) (Ok flat) = a in cc)
 
-pub nothing_below : {n : ℕ} → Below n []
-unfolding value_in world_of
-nothing_below = record { below = λ x b e. absurd (let z : None ≡ Some b = e in cc); outer = λ k. record { names = tt; modules = tt } }
+pub flat_is : (files : List Source_file) (flat : FlatProgram) → Elaborates files (Ok flat) → (s : State) → Declare files s → flat_program s ≡ flat
+flat_is files flat e s d = let z : ◌≡◌ {A = Result FlatProgram Refusal} (Ok (flat_program s)) (Ok flat) = files_come_to_one files (Ok (flat_program s)) (Ok flat) (declared_is_elaborated files s d) e in cc
 
-pub elaborated : (ps : List Program) (flat : FlatProgram) (z : Option Sizing) → resolve_program ps ≡ Ok flat → Sizes_are_told z 0 flat.definitions → Definitions_resolved z 0 (source_tops 0 [] (written ps) (binds flat.definitions)) (flat_tops 0 (named_values flat.definitions))
-unfolding resolve_program
-elaborated ps flat z e p = program_is _ flat e (λ s h. let r = files_go 0 ps (record { own = []; scope = []; made = [] }) s flat.definitions h in tops_resolved 0 r nothing_below p)
+module _ (files : List Source_file) (flat : FlatProgram) (e : Elaborates files (Ok flat)) (told : Told) (p : Sizes_are_told told.sizes 0 flat.definitions) (tight : Bool) (budget entry : ℕ) (arguments : List Datum) where
+  abbrev Flat_allows : FlatProgram → Out FlatValue → ℕ → Type 0
+  Flat_allows flat = Program_means (flat_names told) (plain tight) budget (flat_of flat) entry (all_values arguments)
 
-pub elaborated_adds_nothing : ElaboratedAddsNothing
-elaborated_adds_nothing ps flat e told p tight budget entry vs ws s o f x = go_back (program_sim told tight budget entry true (elaborated ps flat told.sizes e p) s) o f x
+  sizes_of : (s : State) → flat_program s ≡ flat → Sizes_are_told told.sizes 0 (flats s.instances)
+  sizes_of s is = subst (λ (f : FlatProgram). Sizes_are_told told.sizes 0 f.definitions) (sym is) p
 
-pub elaborated_loses_nothing : ElaboratedLosesNothing
-elaborated_loses_nothing ps flat e told p tight budget entry vs ws s o f x = go_forth (program_sim told tight budget entry false (elaborated ps flat told.sizes e p) s) o f x
+  to_source : (o : Out FlatValue) (f : ℕ) → Flat_allows flat o f → (s : State) × Declare files s × Left (Same told.sizes) (Source_means told (plain tight) budget (source_of s) entry (all_values arguments)) o f
+  to_source o f x =
+      let d = declared_of files flat e in
+      (d.0, d.1, declared_adds_nothing files d.0 d.1 told (sizes_of d.0 d.2) tight budget entry _ _ (all_datums_same arguments) o f (subst (λ (z : FlatProgram). Flat_allows z o f) (sym d.2) x))
+
+  from_source : (s : State) → Declare files s → (o : Out SourceValue) (f : ℕ) → Source_means told (plain tight) budget (source_of s) entry (all_values arguments) o f → Right (Same told.sizes) (Flat_allows flat) o f
+  from_source s d o f x =
+      let is = flat_is files flat e s d in
+      subst (λ (z : FlatProgram). Right (Same told.sizes) (Flat_allows z) o f) is (declared_loses_nothing files s d told (sizes_of s is) tight budget entry _ _ (all_datums_same arguments) o f x)
 
 pub same_results : SameResults
-same_results ps flat e told p tight budget entry arguments result words = (
-  λ x. source_allows _ result words (elaborated_adds_nothing ps flat e told p tight budget entry _ _ (all_datums_same arguments) _ words x),
-  λ x. flat_allows _ result words (elaborated_loses_nothing ps flat e told p tight budget entry _ _ (all_datums_same arguments) _ words x),
+same_results files flat e told p tight budget entry arguments result words = (
+  λ x. let y = to_source files flat e told p tight budget entry arguments (Val (as_value result)) words x in (y.0, y.1, source_allows _ result words y.2),
+  λ x. flat_allows _ result words (from_source files flat e told p tight budget entry arguments x.0 x.1 (Val (as_value result)) words x.2),
 )
 
 pub same_reports : SameReports
-same_reports ps flat e told p tight budget entry arguments report words = (
-  λ x. source_reports _ report words (elaborated_adds_nothing ps flat e told p tight budget entry _ _ (all_datums_same arguments) _ words x),
-  λ x. flat_reports _ report words (elaborated_loses_nothing ps flat e told p tight budget entry _ _ (all_datums_same arguments) _ words x),
+same_reports files flat e told p tight budget entry arguments report words = (
+  λ x. let y = to_source files flat e told p tight budget entry arguments (Fail report) words x in (y.0, y.1, source_reports _ report words y.2),
+  λ x. flat_reports _ report words (from_source files flat e told p tight budget entry arguments x.0 x.1 (Fail report) words x.2),
 )
+
+-- ---- numbers
+
+good_filled : {all : List Instance} {n m : ℕ} {i : Instance} → Good all n m i → Filled n m (flat_binders i.flat)
+good_filled {all} {n} {m} {i} g = subst (λ z. Filled z m (flat_binders i.flat)) g.first (subst (λ z. Filled (length g.made) z (flat_binders i.flat)) g.last (define_filled g.file g.is_entry g.name i.heads i.value (a_world g.world ∷ []) g.made g.made' i.flat g.resolved))
+
+chain_filled : {all : List Instance} {n m : ℕ} {is : List Instance} → Chain all n is m → Filled n m (flat_map definition_binders (map defined_of (flats is)))
+chain_filled chain_none = fill_none refl
+chain_filled (chain_more g c) = fill_both (good_filled g) (chain_filled c)
+
+pub each_is_bound_once : EachIsBoundOnce
+each_is_bound_once files flat e =
+    let d = declared_of files flat e in
+    let s = d.0 in
+    let f = chain_filled (declared_fine files s d.1).chain in
+    let all : f.many ≡ length s.made = omega (arith, f.upto) in
+    subst (λ (z : FlatProgram). IsPermutation (range_with_len 0 (length z.names)) (flat_map definition_binders (definitions_of z))) d.2
+    (subst (λ k. IsPermutation (range_with_len 0 k) (flat_map definition_binders (map defined_of (flats s.instances)))) all f.each)

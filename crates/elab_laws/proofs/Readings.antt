@@ -52,66 +52,96 @@ value_same : (w : World) (at at' : Place) (x : Text) (rest : Path) (o : Option B
 value_same w at at' x rest (Some b) = refl
 value_same w at at' x rest None = outer_same w at at' x rest (value_among w.names x)
 
--- ---- the numbers of values that stand outside are below n
+-- ---- the numbers of values that stand outside are such as a condition asks
 
-abbrev pub Ref_below : ℕ → Ref → Type 0
-Ref_below n (ref.Bound b) = b.0 < n
-Ref_below n (ref.Prim p) = Unit {0}
-Ref_below n (ref.Scalar s) = ⊥
+abbrev pub Such : Type 1
+Such = ℕ → Type 0
 
-abbrev pub Under : ℕ → List Member → Type 0
-Under n [] = Unit {0}
-Under n (value_member x r ∷ ms) = Ref_below n r × Under n ms
-Under n (type_member x r ∷ ms) = Under n ms
-Under n (module_member x m ∷ ms) = Under n ms
-Under n (signature_member x k ∷ ms) = Under n ms
+abbrev pub Ref_under : Such → Ref → Type 0
+Ref_under S (ref.Bound b) = S b.0
+Ref_under S (ref.Prim p) = Unit {0}
+Ref_under S (ref.Scalar s) = ⊥
 
-abbrev pub Contents_under : ℕ → Contents → Type 0
-Contents_under n (members ms) = Under n ms
-Contents_under n (parametric k) = Unit {0}
+abbrev pub Under : Such → List Member → Type 0
+Under S [] = Unit {0}
+Under S (value_member x r ∷ ms) = Ref_under S r × Under S ms
+Under S (type_member x r ∷ ms) = Under S ms
+Under S (module_member x m ∷ ms) = Under S ms
+Under S (signature_member x k ∷ ms) = Under S ms
 
-abbrev pub All_under : ℕ → List Contents → Type 0
-All_under n [] = Unit {0}
-All_under n (c ∷ cs) = Contents_under n c × All_under n cs
+abbrev pub Contents_under : Such → Contents → Type 0
+Contents_under S (members ms) = Under S ms
+Contents_under S (parametric k) = Unit {0}
 
-pub record World_under (n : ℕ) (w : World) : Type 0 where
-  pub names : Under n w.names
-  pub modules : All_under n w.modules
+abbrev pub All_under : Such → List Contents → Type 0
+All_under S [] = Unit {0}
+All_under S (c ∷ cs) = Contents_under S c × All_under S cs
 
-abbrev pub Option_below : ℕ → Option Ref → Type 0
-Option_below n None = Unit {0}
-Option_below n (Some r) = Ref_below n r
+pub record World_under (S : Such) (w : World) : Type 0 where
+  pub names : Under S w.names
+  pub modules : All_under S w.modules
 
-newer_below : (n : ℕ) (t : Bool) (r : Ref) (o : Option Ref) → Ref_below n r → Option_below n o → Option_below n (newer t r o)
-newer_below n true r o b i = b
-newer_below n false r o b i = i
+-- one condition behind another
+pub ref_up : (S T : Such) (r : Ref) → ((k : ℕ) → S k → T k) → Ref_under S r → Ref_under T r
+ref_up S T (ref.Bound b) up u = up b.0 u
+ref_up S T (ref.Prim p) up u = tt
+ref_up S T (ref.Scalar s) up u = u
 
-pub among_below : (n : ℕ) (ms : List Member) (x : Text) → Under n ms → Option_below n (value_among ms x)
+pub under_up : (S T : Such) (ms : List Member) → ((k : ℕ) → S k → T k) → Under S ms → Under T ms
+under_up S T [] up u = tt
+under_up S T (value_member x r ∷ ms) up u = (ref_up S T r up u.0, under_up S T ms up u.1)
+under_up S T (type_member x r ∷ ms) up u = under_up S T ms up u
+under_up S T (module_member x k ∷ ms) up u = under_up S T ms up u
+under_up S T (signature_member x k ∷ ms) up u = under_up S T ms up u
+
+pub contents_up : (S T : Such) (c : Contents) → ((k : ℕ) → S k → T k) → Contents_under S c → Contents_under T c
+contents_up S T (members ms) up u = under_up S T ms up u
+contents_up S T (parametric k) up u = tt
+
+pub all_up : (S T : Such) (cs : List Contents) → ((k : ℕ) → S k → T k) → All_under S cs → All_under T cs
+all_up S T [] up u = tt
+all_up S T (c ∷ cs) up u = (contents_up S T c up u.0, all_up S T cs up u.1)
+
+pub world_up : {S T : Such} {w : World} → ((k : ℕ) → S k → T k) → World_under S w → World_under T w
+world_up {S} {T} {w} up u = record { names = under_up S T w.names up u.names; modules = all_up S T w.modules up u.modules }
+
+abbrev pub any_number : Such
+any_number k = Unit {0}
+
+abbrev pub Option_under : Such → Option Ref → Type 0
+Option_under S None = Unit {0}
+Option_under S (Some r) = Ref_under S r
+
+newer_under : (S : Such) (t : Bool) (r : Ref) (o : Option Ref) → Ref_under S r → Option_under S o → Option_under S (newer t r o)
+newer_under S true r o b i = b
+newer_under S false r o b i = i
+
+pub among_under : (S : Such) (ms : List Member) (x : Text) → Under S ms → Option_under S (value_among ms x)
 unfolding value_among
-among_below n [] x u = tt
-among_below n (value_member y r ∷ ms) x u = newer_below n (bytes_eq y x) r (value_among ms x) u.0 (among_below n ms x u.1)
-among_below n (type_member y r ∷ ms) x u = among_below n ms x u
-among_below n (module_member y m ∷ ms) x u = among_below n ms x u
-among_below n (signature_member y k ∷ ms) x u = among_below n ms x u
+among_under S [] x u = tt
+among_under S (value_member y r ∷ ms) x u = newer_under S (bytes_eq y x) r (value_among ms x) u.0 (among_under S ms x u.1)
+among_under S (type_member y r ∷ ms) x u = among_under S ms x u
+among_under S (module_member y m ∷ ms) x u = among_under S ms x u
+among_under S (signature_member y k ∷ ms) x u = among_under S ms x u
 
-pub members_under : (n : ℕ) (c : Contents) → Contents_under n c → Under n (members_of c)
-members_under n (members ms) u = u
-members_under n (parametric k) u = tt
+pub members_under : (S : Such) (c : Contents) → Contents_under S c → Under S (members_of c)
+members_under S (members ms) u = u
+members_under S (parametric k) u = tt
 
-pub contents_under : (n : ℕ) (cs : List Contents) (k : ℕ) → All_under n cs → Under n (members_of (contents_at cs k))
+pub contents_under : (S : Such) (cs : List Contents) (k : ℕ) → All_under S cs → Under S (members_of (contents_at cs k))
 unfolding contents_at
-contents_under n [] k u = tt
-contents_under n (c ∷ cs) zero u = members_under n c u.0
-contents_under n (c ∷ cs) (suc k) u = contents_under n cs k u.1
+contents_under S [] k u = tt
+contents_under S (c ∷ cs) zero u = members_under S c u.0
+contents_under S (c ∷ cs) (suc k) u = contents_under S cs k u.1
 
-pub in_module_below : (n : ℕ) (cs : List Contents) (m : Module_ref) (x : Text) → All_under n cs → Option_below n (value_in_module cs m x)
+pub in_module_under : (S : Such) (cs : List Contents) (m : Module_ref) (x : Text) → All_under S cs → Option_under S (value_in_module cs m x)
 unfolding value_in_module
-in_module_below n cs (made_module k) x u = among_below n (members_of (contents_at cs k)) x (contents_under n cs k u)
-in_module_below n cs (scalar_module t) x u = prim_below (member_of t x)
+in_module_under S cs (made_module k) x u = among_under S (members_of (contents_at cs k)) x (contents_under S cs k u)
+in_module_under S cs (scalar_module t) x u = prim_under (member_of t x)
   where
-    prim_below : (o : Option Primitive) → Option_below n (primitive_ref o)
-    prim_below None = tt
-    prim_below (Some p) = tt
+    prim_under : (o : Option Primitive) → Option_under S (primitive_ref o)
+    prim_under None = tt
+    prim_under (Some p) = tt
 
 -- ---- what is found of a path
 
@@ -125,36 +155,36 @@ before_is : (x : Text) (rest : Path) → length rest ≡ names_before (x ∷ res
 before_is x [] = refl
 before_is x (y ∷ ys) = ap suc (before_is y ys)
 
-finds_ref : (n : ℕ) (p : Path) (r : Ref) (k : ℕ) (fs : Path) → Ref_below n r → k + length fs ≡ names_before p → Finds (λ b. b.0 < n) p (found r k fs)
-finds_ref n p (ref.Bound b) k fs u h = finds_bound b k fs u h
-finds_ref n p (ref.Prim q) k fs u h = finds_primitive q k fs h
-finds_ref n p (ref.Scalar s) k fs u h = absurd u
+finds_ref : (S : Such) (p : Path) (r : Ref) (k : ℕ) (fs : Path) → Ref_under S r → k + length fs ≡ names_before p → Finds (λ b. S b.0) p (found r k fs)
+finds_ref S p (ref.Bound b) k fs u h = finds_bound b k fs u h
+finds_ref S p (ref.Prim q) k fs u h = finds_primitive q k fs h
+finds_ref S p (ref.Scalar s) k fs u h = absurd u
 
-finds_member : (n : ℕ) (p : Path) (at : Place) (k : ℕ) (y : Text) (fs : Path) (o : Option Ref) → Option_below n o → k + length fs ≡ names_before p → Finds (λ b. b.0 < n) p (member_or at k y fs o)
-finds_member n p at k y fs None u h = finds_none _
-finds_member n p at k y fs (Some r) u h = finds_ref n p r k fs u h
+finds_member : (S : Such) (p : Path) (at : Place) (k : ℕ) (y : Text) (fs : Path) (o : Option Ref) → Option_under S o → k + length fs ≡ names_before p → Finds (λ b. S b.0) p (member_or at k y fs o)
+finds_member S p at k y fs None u h = finds_none _
+finds_member S p at k y fs (Some r) u h = finds_ref S p r k fs u h
 
 finds_deeper : {B : BindId → Type 0} {p : Path} (o : Option Module_ref) (k : Module_ref → Result Found Refusal) (r : Result Found Refusal) → ((n : Module_ref) → Finds B p (k n)) → Finds B p r → Finds B p (or_deeper o k r)
 finds_deeper None k r f g = g
 finds_deeper (Some n) k r f g = f n
 
-finds_inside : (n : ℕ) (p : Path) (cs : List Contents) (at : Place) (k : ℕ) (m : Module_ref) (y : Text) (fs : Path) → All_under n cs → k + length fs ≡ names_before p → Finds (λ b. b.0 < n) p (inside cs at k m y fs)
+finds_inside : (S : Such) (p : Path) (cs : List Contents) (at : Place) (k : ℕ) (m : Module_ref) (y : Text) (fs : Path) → All_under S cs → k + length fs ≡ names_before p → Finds (λ b. S b.0) p (inside cs at k m y fs)
 unfolding inside
-finds_inside n p cs at k m y [] u h = finds_member n p at k y [] (value_in_module cs m y) (in_module_below n cs m y u) h
-finds_inside n p cs at k m y (z ∷ fs) u h = finds_deeper (module_in_module cs m y) _ _ (λ l. finds_inside n p cs at (suc k) l z fs u (omega (arith, h))) (finds_member n p at k y (z ∷ fs) (value_in_module cs m y) (in_module_below n cs m y u) h)
+finds_inside S p cs at k m y [] u h = finds_member S p at k y [] (value_in_module cs m y) (in_module_under S cs m y u) h
+finds_inside S p cs at k m y (z ∷ fs) u h = finds_deeper (module_in_module cs m y) _ _ (λ l. finds_inside S p cs at (suc k) l z fs u (omega (arith, h))) (finds_member S p at k y (z ∷ fs) (value_in_module cs m y) (in_module_under S cs m y u) h)
 
-finds_module : (n : ℕ) (cs : List Contents) (at : Place) (x : Text) (rest : Path) (o : Option Module_ref) → All_under n cs → Finds (λ b. b.0 < n) (x ∷ rest) (by_module cs at x rest o)
-finds_module n cs at x [] o u = finds_none _
-finds_module n cs at x (y ∷ fs) None u = finds_none _
-finds_module n cs at x (y ∷ fs) (Some m) u = finds_inside n (x ∷ y ∷ fs) cs at 1 m y fs u (omega (arith, before_is y fs))
+finds_module : (S : Such) (cs : List Contents) (at : Place) (x : Text) (rest : Path) (o : Option Module_ref) → All_under S cs → Finds (λ b. S b.0) (x ∷ rest) (by_module cs at x rest o)
+finds_module S cs at x [] o u = finds_none _
+finds_module S cs at x (y ∷ fs) None u = finds_none _
+finds_module S cs at x (y ∷ fs) (Some m) u = finds_inside S (x ∷ y ∷ fs) cs at 1 m y fs u (omega (arith, before_is y fs))
 
-finds_by_primitive : (n : ℕ) (w : World) (at : Place) (x : Text) (rest : Path) (o : Option Primitive) → World_under n w → Finds (λ b. b.0 < n) (x ∷ rest) (by_primitive w at x rest o)
-finds_by_primitive n w at x rest (Some p) u = finds_primitive p 0 rest (omega (arith, before_is x rest))
-finds_by_primitive n w at x rest None u = finds_module n w.modules at x rest (module_named w x) u.modules
+finds_by_primitive : (S : Such) (w : World) (at : Place) (x : Text) (rest : Path) (o : Option Primitive) → World_under S w → Finds (λ b. S b.0) (x ∷ rest) (by_primitive w at x rest o)
+finds_by_primitive S w at x rest (Some p) u = finds_primitive p 0 rest (omega (arith, before_is x rest))
+finds_by_primitive S w at x rest None u = finds_module S w.modules at x rest (module_named w x) u.modules
 
-pub finds_outside : (n : ℕ) (w : World) (at : Place) (x : Text) (rest : Path) (o : Option Ref) → Option_below n o → World_under n w → Finds (λ b. b.0 < n) (x ∷ rest) (by_member w at x rest o)
-finds_outside n w at x rest (Some r) b u = finds_ref n (x ∷ rest) r 0 rest b (omega (arith, before_is x rest))
-finds_outside n w at x rest None b u = finds_by_primitive n w at x rest (primitive_of x) u
+pub finds_outside : (S : Such) (w : World) (at : Place) (x : Text) (rest : Path) (o : Option Ref) → Option_under S o → World_under S w → Finds (λ b. S b.0) (x ∷ rest) (by_member w at x rest o)
+finds_outside S w at x rest (Some r) b u = finds_ref S (x ∷ rest) r 0 rest b (omega (arith, before_is x rest))
+finds_outside S w at x rest None b u = finds_by_primitive S w at x rest (primitive_of x) u
 
 -- local names are of any number
 any_bound : {B : BindId → Type 0} {p : Path} {r : Result Found Refusal} → Finds B p r → Finds (λ b. Unit {0}) p r
@@ -162,24 +192,23 @@ any_bound (finds_bound b k fs u h) = finds_bound b k fs tt h
 any_bound (finds_primitive q k fs h) = finds_primitive q k fs h
 any_bound (finds_none e) = finds_none e
 
-finds_value : (n : ℕ) (w : World) (at : Place) (x : Text) (rest : Path) (o : Option BindId) → World_under n w → Finds (λ b. Unit {0}) (x ∷ rest) (by_value w at x rest o)
-finds_value n w at x rest (Some b) u = finds_bound b 0 rest tt (omega (arith, before_is x rest))
-finds_value n w at x rest None u = any_bound (finds_outside n w at x rest (value_among w.names x) (among_below n w.names x u.names) u)
+finds_value : (S : Such) (w : World) (at : Place) (x : Text) (rest : Path) (o : Option BindId) → World_under S w → Finds (λ b. Unit {0}) (x ∷ rest) (by_value w at x rest o)
+finds_value S w at x rest (Some b) u = finds_bound b 0 rest tt (omega (arith, before_is x rest))
+finds_value S w at x rest None u = any_bound (finds_outside S w at x rest (value_among w.names x) (among_under S w.names x u.names) u)
 
-finds : (n : ℕ) (sc : Scope) (at : Place) (p : Path) → World_under n (world_of sc) → Finds (λ b. Unit {0}) p (value_at sc at p)
-finds n sc at [] u = finds_none _
-finds n sc at (x ∷ rest) u = finds_value n (world_of sc) at x rest (value_in sc x) u
+finds : (S : Such) (sc : Scope) (at : Place) (p : Path) → World_under S (world_of sc) → Finds (λ b. Unit {0}) p (value_at sc at p)
+finds S sc at [] u = finds_none _
+finds S sc at (x ∷ rest) u = finds_value S (world_of sc) at x rest (value_in sc x) u
 
 -- ---- the reading of a scope
 
--- what a path names in the scope, it names by the locals; and the values outside have numbers below `upto`
+-- what a path names in the scope, it names by the locals; and no name of a scalar type stands for a value outside
 pub record Reads (sc : Scope) (ls : Locals) (outside : Outside) : Type 0 where
   pub reads : (at : Place) (p : Path) → named_of (value_at sc at p) ≡ path_in ls outside p
-  pub upto : ℕ
-  pub under : World_under upto (world_of sc)
+  pub under : World_under any_number (world_of sc)
 
-pub reads_outside : (n : ℕ) (sc : Scope) → World_under n (world_of sc) → Reads sc [] (outside_of sc)
-reads_outside n sc u = record { reads = reads; upto = n; under = u }
+pub reads_outside : (sc : Scope) → World_under any_number (world_of sc) → Reads sc [] (outside_of sc)
+reads_outside sc u = record { reads = reads; under = u }
   where
     reads : (at : Place) (p : Path) → named_of (value_at sc at p) ≡ path_in [] (outside_of sc) p
     reads at [] = refl
@@ -191,7 +220,7 @@ newer_local w at x rest false b o named e = e
 
 pub reads_value : {sc : Scope} {ls : Locals} {outside : Outside} (x : Text) (b : BindId) → Reads sc ls outside → Reads (a_value x b ∷ sc) ((x, b.0) ∷ ls) outside
 unfolding value_in world_of
-reads_value {sc} {ls} {outside} x b r = record { reads = reads; upto = r.upto; under = r.under }
+reads_value {sc} {ls} {outside} x b r = record { reads = reads; under = r.under }
   where
     reads : (at : Place) (p : Path) → named_of (value_at (a_value x b ∷ sc) at p) ≡ path_in ((x, b.0) ∷ ls) outside p
     reads at [] = refl
@@ -199,7 +228,7 @@ reads_value {sc} {ls} {outside} x b r = record { reads = reads; upto = r.upto; u
 
 pub reads_type : {sc : Scope} {ls : Locals} {outside : Outside} (x : Text) (b : BindId) → Reads sc ls outside → Reads (a_type x b ∷ sc) ls outside
 unfolding value_in world_of
-reads_type {sc} {ls} {outside} x b r = record { reads = reads; upto = r.upto; under = r.under }
+reads_type {sc} {ls} {outside} x b r = record { reads = reads; under = r.under }
   where
     reads : (at : Place) (p : Path) → named_of (value_at (a_type x b ∷ sc) at p) ≡ path_in ls outside p
     reads at [] = r.reads at []
@@ -265,7 +294,7 @@ use_of B at p made made' t _ (finds_primitive q k fs h) e =
     record { modules = k; is = ap Some i; many = ap numbers (sym i) ∙ projected_numbers at fs (Use (ref.Prim q) at k) ∙ omega (arith, h); same = ok_state e }
 use_of B at p made made' t _ (finds_none x) e = absurd (let z : Err x ≡ Ok (t, made') = e in cc)
 
-pub use_is : (n : ℕ) (sc : Scope) (place at : Place) (p : Path) (made made' : List Text) (t : FlatTerm) → World_under n (world_of sc) → use_found at made (value_at sc place p) ≡ Ok (t, made') → Is_use at (named_of (value_at sc place p)) (names_before p) made made' t
+pub use_is : (n : Such) (sc : Scope) (place at : Place) (p : Path) (made made' : List Text) (t : FlatTerm) → World_under n (world_of sc) → use_found at made (value_at sc place p) ≡ Ok (t, made') → Is_use at (named_of (value_at sc place p)) (names_before p) made made' t
 use_is n sc place at p made made' t u e = use_of _ at p made made' t (value_at sc place p) (finds n sc place p u) e
 
 -- ---- the numbers that a definition sees
@@ -276,11 +305,11 @@ number_below n p rest k _ (finds_primitive q j fs h) e = absurd (let z : Names_p
 number_below n p rest k _ (finds_none x) e = absurd (let z : Names_nothing ≡ Names_number k rest = e in cc)
 
 -- a value of the scope that is none of the world's
-finds_below : (n : ℕ) (w : World) (at : Place) (x : Text) (rest : Path) (o : Option BindId) → ((b : BindId) → o ≡ Some b → b.0 < n) → World_under n w → Finds (λ b. b.0 < n) (x ∷ rest) (by_value w at x rest o)
+finds_below : (n : ℕ) (w : World) (at : Place) (x : Text) (rest : Path) (o : Option BindId) → ((b : BindId) → o ≡ Some b → b.0 < n) → World_under (λ k. k < n) w → Finds (λ b. b.0 < n) (x ∷ rest) (by_value w at x rest o)
 finds_below n w at x rest (Some b) f u = finds_bound b 0 rest (f b refl) (omega (arith, before_is x rest))
-finds_below n w at x rest None f u = finds_outside n w at x rest (value_among w.names x) (among_below n w.names x u.names) u
+finds_below n w at x rest None f u = finds_outside (λ k. k < n) w at x rest (value_among w.names x) (among_under (λ k. k < n) w.names x u.names) u
 
-pub sees_below : (n : ℕ) (sc : Scope) → ((x : Text) (b : BindId) → value_in sc x ≡ Some b → b.0 < n) → World_under n (world_of sc) → Sees_below n (outside_of sc)
+pub sees_below : (n : ℕ) (sc : Scope) → ((x : Text) (b : BindId) → value_in sc x ≡ Some b → b.0 < n) → World_under (λ k. k < n) (world_of sc) → Sees_below n (outside_of sc)
 sees_below n sc locals u = record { below = below }
   where
     below : (p rest : Path) (k : ℕ) → outside_of sc p ≡ Names_number k rest → k < n

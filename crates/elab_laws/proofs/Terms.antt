@@ -14,7 +14,7 @@ use Rattle.elab_scopes.specs.Resolve.{Numbered, next, with_text, Naming, Bound, 
 use Rattle.fut_meaning.specs.Sources.{Outside}
 use Rattle.fut_meaning.specs.Resolved.{Locals, flat_use, Pattern_resolved, p_bound, p_wild, p_tuple, p_record, p_typed, Patterns_resolved, p_none, p_and, Same_operation, o_integer, o_truth, o_tuple, o_record, o_array, o_binary, o_negate, o_complement, o_index, o_project, o_update, o_replace, o_ascribe, o_coerce, o_declared, o_assert, o_range, Resolved, r_use, r_strict, r_lambda, r_apply, r_let, r_if, r_loop, All_resolved, r_none, r_more, Turns_resolved, r_counted, r_over, r_while, Sizes_resolved, z_none, z_and, Parameters_resolved, g_none, g_size, g_type}
 use Rattle.elab_laws.proofs.Told.{Told, All_told, Turns_told}
-use Rattle.elab_laws.proofs.Readings.{Reads, entered, No_world, reads_entered, use_is}
+use Rattle.elab_laws.proofs.Readings.{any_number, Reads, entered, No_world, reads_entered, use_is}
 use Rattle.elab_laws.proofs.Downs.{pattern_up, parameters_down, down, all_down, turns_down}
 use Rattle.elab_laws.proofs.Grown.{went, led_so, beside_is, ok_part, ok_rest, More, more_same, more_text, type_more, Named_so, pattern_so}
 
@@ -201,7 +201,7 @@ turns_ends {made} {m} {made'} {ls} {inside} {outside} {ts} {a} {b} r e = subst (
 use_so : (sc : Scope) (p : Spelled) (at : Place) (k : ℕ) (made made' : List Text) (u : FlatTerm) (ls : Locals) (outside : Outside) → k ≡ names_before p.path → Reads sc ls outside → use_found at made (value_of sc p) ≡ Ok (u, made') → Term_so made made' ls outside (Use p at k) u
 unfolding value_of
 use_so sc p at k made made' u ls outside n r e =
-    let i = use_is r.upto sc p.place at p.path made made' u r.under e in
+    let i = use_is any_number sc p.place at p.path made made' u r.under e in
     record { more = more_same i.same; resolved = r_use i.modules (ap (flat_use at i.modules) (sym (r.reads p.place p.path)) ∙ i.is) n (i.many ∙ ap (λ z. 1 + (z + z)) (sym n)) }
 
 pub either_order : {C A E : Type 0} (t : Bool) {x y : Result A E} {z : A} → cond t x y ≡ Ok z → (x ≡ Ok z → C) → (y ≡ Ok z → C) → C

@@ -2,8 +2,8 @@ pub mod Sourced
 pub mod Sizeless
 pub mod Sized
 pub mod Used
-pub mod Claims
 pub mod Answers
+pub mod Claims
 pub mod Binders
 pub mod Parameters
 pub mod OnceClaims

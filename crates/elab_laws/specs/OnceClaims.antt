@@ -2,7 +2,6 @@
 -- its own, and generalisation is exact for each definition and each local function of a program that elaboration makes.
 use Rattle.std.specs.Prelude.{◌≡◌, ◌↔◌, List, ◌∷◌, ◌++◌, map, flat_map, length, eqb, IsPermutation, Ok}
 use Rattle.std.specs.List.{range_with_len, IsDistinct}
-use Rattle.fut_ast.specs.declared.module.Program.{Program}
 use Rattle.fut_scalar.specs.declared.place.BindId.{BindId}
 use Rattle.fut_flat.specs.Terms.{Bound_pattern, Parameter}
 use Rattle.fut_types.specs.declared.Kind.{Kind}
@@ -12,7 +11,9 @@ use Rattle.fut_typing.specs.Generalised.{Scheme, Reused}
 use Rattle.fut_typing.specs.Program.{Defined, program_numbers, Program_typed}
 use Rattle.fut_typing.specs.Answers.{Principal}
 use Rattle.fut_typing.specs.Exact.{Way, scheme_behind, local_behind}
-use Rattle.elab_scopes.specs.Programs.{FlatDefinition, FlatProgram, resolve_program}
+use Rattle.elab_scopes.specs.Programs.{FlatDefinition, FlatProgram}
+use Rattle.elab_scopes.specs.Elaboration.{Elaborates}
+use Rattle.elab_scopes.specs.Imports.{Source_file}
 use Rattle.typing_laws.specs.Ways.{Ends_at, Function_let}
 use Rattle.typing_laws.specs.Claims.{Alone, Alone_within, Chosen_instance}
 use Rattle.elab_laws.specs.Binders.{definition_binders}
@@ -28,26 +29,26 @@ definitions_of flat = map defined_of flat.definitions
 -- The numbers that the program's definitions bind are those below the count of its names, each once.
 abbrev pub EachIsBoundOnce : Type 0
 EachIsBoundOnce =
-    (ps : List Program) (flat : FlatProgram) → resolve_program ps ≡ Ok flat
+    (files : List Source_file) (flat : FlatProgram) → Elaborates files (Ok flat)
     → IsPermutation (range_with_len 0 (length flat.names)) (flat_map definition_binders (definitions_of flat))
 
 -- No two type parameters of the program, of definitions or of local ones, have one number.
 abbrev pub ParametersDiffer : Type 0
 ParametersDiffer =
-    (ps : List Program) (flat : FlatProgram) → resolve_program ps ≡ Ok flat
+    (files : List Source_file) (flat : FlatProgram) → Elaborates files (Ok flat)
     → IsDistinct eqb (flat_map definition_parameters (definitions_of flat))
 
 -- No other definition of the program, and no local one, has one of a definition's type parameters.
 abbrev pub ParametersAreAlone : Type 0
 ParametersAreAlone =
-    (ps : List Program) (flat : FlatProgram) → resolve_program ps ≡ Ok flat
+    (files : List Source_file) (flat : FlatProgram) → Elaborates files (Ok flat)
     → (before after : List Defined) (d : Defined) → definitions_of flat ≡ before ++ d ∷ after → Alone before d after
 
 -- No definition of the program, and no other local one, has one of the type parameters of a local function, to which a way in a
 -- definition leads.
 abbrev pub LocalParametersAreAlone : Type 0
 LocalParametersAreAlone =
-    (ps : List Program) (flat : FlatProgram) → resolve_program ps ≡ Ok flat
+    (files : List Source_file) (flat : FlatProgram) → Elaborates files (Ok flat)
     → (before after : List Defined) (d : Defined) → definitions_of flat ≡ before ++ d ∷ after
     → (w : Way) (own : List (Parameter BindId)) → Ends_at (Function_let own) d.value w → Alone_within before d after w own
 
@@ -60,14 +61,14 @@ Exact_in N places ds s =
 -- Generalisation is exact for each definition of the program, whatever type parameters are written.
 abbrev pub ElaboratedIsExact : Type 0
 ElaboratedIsExact =
-    (ps : List Program) (flat : FlatProgram) → resolve_program ps ≡ Ok flat
+    (files : List Source_file) (flat : FlatProgram) → Elaborates files (Ok flat)
     → (before after : List Defined) (d : Defined) → definitions_of flat ≡ before ++ d ∷ after
     → (N : Names) → AreNames N → (places : Kind) → Exact_in N places (definitions_of flat) (scheme_behind N places before d)
 
 -- And it is for each local function of the program.
 abbrev pub ElaboratedLocalIsExact : Type 0
 ElaboratedLocalIsExact =
-    (ps : List Program) (flat : FlatProgram) → resolve_program ps ≡ Ok flat
+    (files : List Source_file) (flat : FlatProgram) → Elaborates files (Ok flat)
     → (before after : List Defined) (d : Defined) → definitions_of flat ≡ before ++ d ∷ after
     → (w : Way) (own : List (Parameter BindId)) → Ends_at (Function_let own) d.value w
     → (N : Names) → AreNames N → (places : Kind) → Exact_in N places (definitions_of flat) (local_behind N places before d w)

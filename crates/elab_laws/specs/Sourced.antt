@@ -1,23 +1,20 @@
--- The definitions of source files as the meaning takes them: each sees what the paths of its scope name, where no size of its
--- own has the name, and has the number of its flat definition.
-use Rattle.std.specs.Prelude.{ℕ, ◌+◌, ◌++◌, List, [], ◌∷◌, Bool, true, false, cond, Result, Ok, Err, map}
+-- The definitions that files declare, as the meaning takes them: each sees what the paths of its scope name, where no size of
+-- its own has the name, and has the number of its flat definition.
+use Rattle.std.specs.Prelude.{ℕ, ◌+◌, List, [], ◌∷◌, Bool, true, false, cond, Result, Ok, Err, map}
 use Rattle.std.specs.Str.{bytes_eq}
-use Rattle.fut_scalar.specs.declared.place.BindId.{BindId}
 use Rattle.fut_scalar.specs.declared.place.Place.{Place}
 use Rattle.fut_ast.specs.Sorts.{Text, Path}
 use Rattle.fut_ast.specs.declared.node.Label.{Label}
-use Rattle.fut_ast.specs.declared.module.Dec.{Dec}
-use Rattle.fut_ast.specs.declared.module.DecForm.{DecForm-F, out-DecForm}
-use Rattle.fut_ast.specs.declared.module.Program.{Program}
 use Rattle.fut_flat.specs.declared.prim.Ref.{Ref}
 use Rattle.fut_flat.specs.declared.prim.Ref.TheVariants as ref
 use Rattle.fut_flat.specs.Numbers.{numbers}
-use Rattle.fut_flat.specs.Sources.{SourceTerm, source_parameters}
+use Rattle.fut_flat.specs.Sources.{source_parameters}
 use Rattle.fut_flat.specs.Terms.{Parameter, Size_parameter, Type_parameter}
 use Rattle.elab_scopes.specs.Names.{Refusal}
-use Rattle.elab_scopes.specs.Scopes.{a_value, Scope, Found, value_at}
-use Rattle.elab_scopes.specs.Programs.{DecLayer, definition_term, FlatDefinition}
-use Rattle.fut_meaning.specs.Flats.{Named_term}
+use Rattle.elab_scopes.specs.Scopes.{Scope, Found, value_at}
+use Rattle.elab_scopes.specs.Programs.{FlatDefinition, FlatProgram}
+use Rattle.elab_scopes.specs.Declarations.{Instance, State}
+use Rattle.fut_meaning.specs.Flats.{Named_term, FlatTop, flat_tops}
 use Rattle.fut_meaning.specs.Sources.{Named, Names_number, Names_primitive, Names_nothing, Outside, SourceTop}
 
 abbrev pub named_ref : Ref → Path → Named
@@ -42,12 +39,6 @@ No_sizes [] = Unit {0}
 No_sizes (Size_parameter x ∷ hs) = ⊥
 No_sizes (Type_parameter x lifted ∷ hs) = No_sizes hs
 
--- a definition's name, its size and type parameters, and its term
-pub record Written : Type 0 where
-  pub name : Text
-  pub parameters : List (Parameter Label)
-  pub value : SourceTerm
-
 -- a size that a definition names hides what its name stands for outside
 abbrev pub is_size_name : List (Parameter Label) → Text → Bool
 is_size_name [] x = false
@@ -58,29 +49,19 @@ abbrev pub hiding : List (Parameter Label) → Outside → Outside
 hiding hs outside [] = outside []
 hiding hs outside (x ∷ rest) = cond (is_size_name hs x) Names_nothing (outside (x ∷ rest))
 
--- definitions by the numbers of their flat ones, where nodes are numbered from `lo` on
-abbrev pub source_tops : ℕ → Scope → List Written → List BindId → List SourceTop
-source_tops lo sc [] bs = []
-source_tops lo sc (d ∷ ds) [] = []
-source_tops lo sc (d ∷ ds) (b ∷ bs) =
-    record { number = b.0; first = 1 + lo; sees = hiding d.parameters (outside_of sc); value = d.value } ∷ source_tops (lo + (1 + numbers d.value)) (a_value d.name b ∷ sc) ds bs
+-- nodes are numbered from `lo` on
+abbrev pub declared_tops : ℕ → List Instance → List SourceTop
+declared_tops lo [] = []
+declared_tops lo (i ∷ is) = record { number = i.flat.bind.0; first = 1 + lo; sees = hiding (source_parameters i.heads) (outside_of i.scope); value = i.value } ∷ declared_tops (lo + (1 + numbers i.value)) is
 
--- the definitions of files, in their order
-abbrev pub written_form : DecLayer → List Written
-written_form (DecForm-F.Def is_entry x heads ps t e) = record { name = x.name; parameters = source_parameters heads; value = definition_term ps t e } ∷ []
-written_form l = []
-
-abbrev pub written_decs : List Dec → List Written
-written_decs [] = []
-written_decs (d ∷ ds) = written_form (out-DecForm d.form) ++ written_decs ds
-
-abbrev pub written : List Program → List Written
-written [] = []
-written (p ∷ ps) = written_decs p.decs ++ written ps
+-- what was declared, by the names of the files
+abbrev pub source_of : State → List SourceTop
+source_of s = declared_tops 0 s.instances
 
 -- the names and terms of flat definitions
-abbrev pub binds : List FlatDefinition → List BindId
-binds = map (λ (d : FlatDefinition). d.bind)
-
 abbrev pub named_values : List FlatDefinition → List Named_term
 named_values = map (λ (d : FlatDefinition). (d.bind, d.value))
+
+-- what a flat program defines
+abbrev pub flat_of : FlatProgram → List FlatTop
+flat_of flat = flat_tops 0 (named_values flat.definitions)

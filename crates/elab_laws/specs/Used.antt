@@ -1,6 +1,7 @@
 -- What a sizing has to tell of the uses of names in flat definitions: the size that the use at a node stands for, found by the
 -- numbers of the nodes on the way to it.
-use Rattle.std.specs.Prelude.{◌≡◌, ℕ, ◌+◌, List, [], ◌∷◌, Bool, cond, nat_lt, Option, Some, None, Ok}
+use Rattle.std.specs.Prelude.{◌≡◌, ℕ, ◌+◌, List, [], ◌∷◌, Bool, false, cond, nat_lt, Option, Some, None, Ok}
+use mathlib.Core.Logic.{◌⊎◌}
 use Rattle.fut_scalar.specs.declared.place.BindId.{BindId}
 use Rattle.fut_flat.specs.declared.prim.Ref.{Ref}
 use Rattle.fut_flat.specs.declared.prim.Ref.TheVariants as ref
@@ -9,8 +10,9 @@ use Rattle.fut_flat.specs.Numbers.{pattern_numbers, all_pattern_numbers, own_num
 use Rattle.fut_flat.specs.Terms.{Use, Strict, Lambda, Apply, Let, If, Loop, Terms, no_term, term_and, Counted, Over, While}
 use Rattle.fut_meaning.specs.Found.{Sizing}
 use Rattle.fut_meaning.specs.Uses.{All_sizes, Parameter_sizes}
-use Rattle.fut_ast.specs.declared.module.Program.{Program}
-use Rattle.elab_scopes.specs.Programs.{FlatDefinition, FlatProgram, resolve_program}
+use Rattle.elab_scopes.specs.Programs.{FlatDefinition, FlatProgram}
+use Rattle.elab_scopes.specs.Elaboration.{Elaborates}
+use Rattle.elab_scopes.specs.Imports.{Source_file}
 use Rattle.elab_laws.specs.Sized.{Sizes_are_told}
 
 module _ (is_size : ℕ → Bool) where
@@ -46,30 +48,31 @@ module _ (is_size : ℕ → Bool) where
   used_in_definitions lo [] node = None
   used_in_definitions lo (d ∷ ds) node = cond (nat_lt node (lo + (1 + numbers d.value))) (used_at (1 + lo) d.value node) (used_in_definitions (lo + (1 + numbers d.value)) ds node)
 
--- no name is used behind a module
-abbrev pub Use_plain : Ref → ℕ → Type 0
-Use_plain (ref.Bound b) modules = modules ≡ 0
-Use_plain (ref.Prim p) modules = Unit {0}
-Use_plain (ref.Scalar s) modules = Unit {0}
+-- behind a module stand numbers such as a condition asks, of definitions
+module _ (S : ℕ → Type 0) where
+  abbrev pub Use_plain : Ref → ℕ → Type 0
+  Use_plain (ref.Bound b) modules = (modules ≡ 0) ⊎ S b.0
+  Use_plain (ref.Prim p) modules = Unit {0}
+  Use_plain (ref.Scalar s) modules = Unit {0}
 
-abbrev mutual
-  pub Uses_plain : FlatTerm → Type 0
-  Uses_plain (Use r at k) = Use_plain r k
-  Uses_plain (Strict o mark ts) = All_plain ts
-  Uses_plain (Lambda ps e) = Uses_plain e
-  Uses_plain (Apply f e) = Uses_plain f × Uses_plain e
-  Uses_plain (Let b v e) = Uses_plain v × Uses_plain e
-  Uses_plain (If c a b) = Uses_plain c × Uses_plain a × Uses_plain b
-  Uses_plain (Loop mark sizes p first turns body) = Uses_plain first × Turns_plain turns × Uses_plain body
+  abbrev mutual
+    pub Uses_plain : FlatTerm → Type 0
+    Uses_plain (Use r at k) = Use_plain r k
+    Uses_plain (Strict o mark ts) = All_plain ts
+    Uses_plain (Lambda ps e) = Uses_plain e
+    Uses_plain (Apply f e) = Uses_plain f × Uses_plain e
+    Uses_plain (Let b v e) = Uses_plain v × Uses_plain e
+    Uses_plain (If c a b) = Uses_plain c × Uses_plain a × Uses_plain b
+    Uses_plain (Loop mark sizes p first turns body) = Uses_plain first × Turns_plain turns × Uses_plain body
 
-  pub All_plain : Terms Ref BindId → Type 0
-  All_plain no_term = Unit {0}
-  All_plain (term_and t ts) = Uses_plain t × All_plain ts
+    pub All_plain : Terms Ref BindId → Type 0
+    All_plain no_term = Unit {0}
+    All_plain (term_and t ts) = Uses_plain t × All_plain ts
 
-  pub Turns_plain : FlatTurns → Type 0
-  Turns_plain (Counted i n) = Uses_plain n
-  Turns_plain (Over p e) = Uses_plain e
-  Turns_plain (While c) = Uses_plain c
+    pub Turns_plain : FlatTurns → Type 0
+    Turns_plain (Counted i n) = Uses_plain n
+    Turns_plain (Over p e) = Uses_plain e
+    Turns_plain (While c) = Uses_plain c
 
 -- each name of a size that is bound has the number of one
 module _ (z : Option Sizing) where
@@ -96,9 +99,14 @@ module _ (z : Option Sizing) where
   Definitions_bound [] = Unit {0}
   Definitions_bound (d ∷ ds) = Parameter_sizes z d.parameters × Sizes_bound d.value × Definitions_bound ds
 
+-- no number of a definition is that of a size
+abbrev pub Definitions_are_no_sizes : (ℕ → Bool) → List FlatDefinition → Type 0
+Definitions_are_no_sizes is_size [] = Unit {0}
+Definitions_are_no_sizes is_size (d ∷ ds) = (is_size d.bind.0 ≡ false) × Definitions_are_no_sizes is_size ds
+
 -- A sizing that tells these sizes, and the numbers of all sizes, is right about the sizes of an elaborated program.
 abbrev pub UsesAreTold : Type 0
 UsesAreTold =
-    (ps : List Program) (flat : FlatProgram) → resolve_program ps ≡ Ok flat
-    → (Z : Sizing) → Definitions_bound (Some Z) flat.definitions → ((node : ℕ) → Z.used node ≡ used_in_definitions Z.is_size 0 flat.definitions node)
+    (files : List Source_file) (flat : FlatProgram) → Elaborates files (Ok flat)
+    → (Z : Sizing) → Definitions_bound (Some Z) flat.definitions → Definitions_are_no_sizes Z.is_size flat.definitions → ((node : ℕ) → Z.used node ≡ used_in_definitions Z.is_size 0 flat.definitions node)
     → Sizes_are_told (Some Z) 0 flat.definitions

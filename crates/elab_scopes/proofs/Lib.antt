@@ -1,7 +1,6 @@
 pub mod Tables
 pub mod Finding
 pub mod Tied
-pub mod Listed
 pub mod Words
 pub mod Outside
 pub mod Walking

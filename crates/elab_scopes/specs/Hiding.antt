@@ -1,5 +1,5 @@
 -- The newest number of each text, and what each name in scope hides.
-use Rattle.std.specs.Prelude.{◌≡◌, cond, not, Bool, true, false, List, [], ◌∷◌, map, reverse, is_some, Option, Some, None}
+use Rattle.std.specs.Prelude.{◌≡◌, cond, not, Bool, true, false, List, [], ◌∷◌, map, reverse, Option, Some, None}
 use Rattle.std.specs.HashMap as hash
 use Rattle.std.specs.Str.{bytes_eq}
 use Rattle.fut_ast.specs.Sorts.{Text}
@@ -8,7 +8,6 @@ use Rattle.elab_scopes.specs.declared.newest.Newest.{Newest}
 use Rattle.elab_scopes.specs.declared.scope.Layer.{Layer}
 use Rattle.elab_scopes.specs.Scopes.{Scope, value_in, type_in}
 use Rattle.elab_scopes.specs.Table.{entry_of}
-use Rattle.elab_scopes.specs.Programs.{has_text}
 
 abbrev pub flat : Option (Option BindId) → Option BindId
 flat None = None
@@ -41,7 +40,3 @@ Hides (l ∷ ls) = (l.hides ≡ in_space (scope_in ls) l.entry.is_type l.entry.n
 
 unfoldable pub Ties : List Layer → Newest → Type 0
 Ties ls t = Hides (reverse ls) × ((is_type : Bool) (y : Text) → newest t is_type y ≡ in_space (scope_in (reverse ls)) is_type y)
-
--- the texts that have a number as values
-unfoldable pub Lists : List Text → Newest → Type 0
-Lists xs t = (y : Text) → is_some (newest t false y) ≡ has_text xs y

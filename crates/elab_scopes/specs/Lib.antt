@@ -4,6 +4,7 @@ pub mod Resolve
 pub mod Programs
 pub mod Imports
 pub mod Declarations
+pub mod Elaboration
 pub mod Numbers
 pub mod Held
 pub mod Trees

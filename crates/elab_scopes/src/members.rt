@@ -93,9 +93,12 @@ struct Shared<'a> {
     members: &'a Members<'a>,
 }
 
-/// The members one by one.
+/// The members one by one, the newest first.
 #[tactic(auto, using(crate::proofs::Indexes::rows))]
-fn one_by_one<'a>(members: &'a Members<'a>, bump: &'a Bump) -> Result<&'a [Member<'a>], NoMemory>
+pub fn one_by_one<'a>(
+    members: &'a Members<'a>,
+    bump: &'a Bump,
+) -> Result<&'a [Member<'a>], NoMemory>
     ensures { IfOk result (λ ms. map member_of ms.now ≡ members.now) }
 {
     let mut listed = Vec::new(bump);

@@ -1,6 +1,7 @@
 -- Tokens have one answer.
-use Rattle.std.proofs.Common.{◌≡◌, List, [], ◌∷◌, Result, Ok, Err, sym, ◌∙◌, ap, subst, arith}
+use Rattle.std.proofs.Common.{◌≡◌, List, ◌∷◌, Result, Ok, Err, sym, ◌∙◌, ap, subst, arith}
 use Rattle.fut_ast.specs.Grammar.{Derives}
+use Rattle.fut_ast.specs.Sorts.{Text}
 use Rattle.fut_ast.specs.declared.module.Program.{Program}
 use Rattle.fut_token.specs.declared.token.Token.{Token}
 use Rattle.fut_lexer.proofs.Readings.{one_reading}
@@ -14,9 +15,12 @@ use Rattle.fut_typing.specs.Program.{Defined}
 use Rattle.fut_typing.specs.Answers.{Typing_is, NoType, FunctionPlace, Ambiguous}
 use Rattle.typing_laws.proofs.NumberingPrograms.{typing_is_one}
 use Rattle.elab_scopes.specs.Names.{Refusal}
-use Rattle.elab_scopes.specs.Programs.{FlatProgram, resolve_program}
+use Rattle.elab_scopes.specs.Programs.{FlatProgram}
+use Rattle.elab_scopes.specs.Elaboration.{Elaborates}
+use Rattle.elab_scopes.specs.Imports.{Source_file}
+use Rattle.elab_laws.proofs.Deeper.{files_come_to_one}
 use Rattle.module_elab.specs.declared.prelude.TheConstants.{PRELUDE}
-use Rattle.front.specs.Acceptance.{IsAcceptable, IsBehindTypes, IsParsed, IsPrelude, IsResolved, IsUntyped, Resolves, Unaccepted, Unspelled, definitions_of, prelude_file}
+use Rattle.front.specs.Acceptance.{file_alone, prelude_of, IsAcceptable, IsBehindTypes, IsParsed, IsPrelude, IsResolved, IsUntyped, Resolves, Unaccepted, Unspelled, definitions_of, prelude_file}
 use Rattle.front.specs.declared.refusals.NameErr.TheVariants as names
 use Rattle.typed_programs.specs.declared.typed.TypeErr.TheVariants as types
 use Rattle.front.specs.declared.refusals.Refused.{Refused}
@@ -41,15 +45,16 @@ prelude_once p q a b =
     let same = one_reading.one_list prelude_file PRELUDE.now a.tokens b.tokens a.lexed b.lexed in
     b.parsed.only p a.parsed.height (subst (λ ts. Derives ts p a.parsed.height) same a.parsed.spelled)
 
-pub resolves_once : (p : Program) (x y : Result FlatProgram Refusal) → Resolves p x → Resolves p y → x ≡ y
-resolves_once p x y a b = sym a.resolved ∙ ap (λ prelude. resolve_program (prelude ∷ p ∷ [])) (prelude_once a.prelude b.prelude a.is_prelude b.is_prelude) ∙ b.resolved
+pub resolves_once : (files : List Source_file) (x y : Result FlatProgram Refusal) → Resolves files x → Resolves files y → x ≡ y
+resolves_once files x y a b =
+    files_come_to_one (prelude_of b.prelude ∷ files) x y (subst (λ prelude. Elaborates (prelude_of prelude ∷ files) x) (prelude_once a.prelude b.prelude a.is_prelude b.is_prelude) a.resolved) b.resolved
 
-pub resolved_once : (tokens : List Token) (x y : Result FlatProgram Refusal) → IsResolved tokens x → IsResolved tokens y → x ≡ y
-resolved_once tokens x y a b =
+pub resolved_once : (path : Text) (tokens : List Token) (x y : Result FlatProgram Refusal) → IsResolved path tokens x → IsResolved path tokens y → x ≡ y
+resolved_once path tokens x y a b =
     let same = parsed_once tokens a.program b.program a.spelled.parsed b.spelled.parsed in
-    resolves_once b.program x y (subst (λ p. Resolves p x) same a.resolves) b.resolves
+    resolves_once (file_alone path b.program) x y (subst (λ p. Resolves (file_alone path p) x) same a.resolves) b.resolves
 
-module _ (tokens : List Token) (flat : FlatProgram) (sure : IsAcceptable tokens flat) where
+module _ (path : Text) (tokens : List Token) (flat : FlatProgram) (sure : IsAcceptable path tokens flat) where
   spelled : (err : ParseErr) → Unspelled tokens err → ⊥
   spelled (parse.Syntax place) u = u.none sure.resolved.program sure.resolved.spelled.parsed.height sure.resolved.spelled.parsed.spelled
   spelled (parse.LeftOut place what) u = u.none sure.resolved.program sure.resolved.spelled.parsed.height sure.resolved.spelled.parsed.spelled
@@ -59,17 +64,17 @@ module _ (tokens : List Token) (flat : FlatProgram) (sure : IsAcceptable tokens 
       omega arith
   spelled parse.Memory u = u
 
-  named : (e : Refusal) → IsResolved tokens (Err e) → ⊥
-  named e r = let same = resolved_once tokens (Ok flat) (Err e) sure.resolved r in absurd cc
+  named : (e : Refusal) → IsResolved path tokens (Err e) → ⊥
+  named e r = let same = resolved_once path tokens (Ok flat) (Err e) sure.resolved r in absurd cc
 
-  typed : (Lacks : Names → List Defined → Type 0) → Excludes Lacks → IsUntyped tokens Lacks → ⊥
+  typed : (Lacks : Names → List Defined → Type 0) → Excludes Lacks → IsUntyped path tokens Lacks → ⊥
   typed Lacks excludes u =
-      let same = resolved_once tokens (Ok u.flat) (Ok flat) u.resolved sure.resolved in
+      let same = resolved_once path tokens (Ok u.flat) (Ok flat) u.resolved sure.resolved in
       let N = u.lacks.0 in
       let typing = typing_is_one sure.typed.0 N sure.typed.1 u.lacks.1 (definitions_of flat) sure.typed.2.0 sure.typed.2.1 in
       excludes N u.lacks.1 (definitions_of flat) typing.0 typing.1 (subst (λ f. Lacks N (definitions_of f)) (same_ok same) u.lacks.2)
 
-  pub refuted : (refused : Refused) → Unaccepted tokens refused → IsBehindTypes refused
+  pub refuted : (refused : Refused) → Unaccepted path tokens refused → IsBehindTypes refused
   refuted (why.Parse err) u = spelled err u
   refuted (why.NotBuilt at) u = let both = sym sure.resolved.spelled.built ∙ u.unbuilt in absurd cc
   refuted (why.Names (names.Unbound name at)) u = named _ u

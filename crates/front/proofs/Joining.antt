@@ -1,7 +1,8 @@
 -- What the stages give, put together.
-use Rattle.std.proofs.Common.{◌≡◌, List, [], ◌∷◌, map, Result, Ok, refl, sym, ◌∙◌, ap, subst}
+use Rattle.std.proofs.Common.{◌≡◌, List, [], ◌∷◌, map, Result, Ok, refl, sym, ap, subst}
 use Rattle.std.specs.Prelude.{None}
 use Rattle.unbuilt_tokens.specs.Unbuilt.{first_unbuilt}
+use Rattle.fut_ast.specs.Sorts.{Text}
 use Rattle.fut_ast.specs.declared.module.Program.{Program}
 use Rattle.fut_token.specs.declared.token.Token.{Token}
 use Rattle.fut_flat.specs.declared.program.Definition.{Definition}
@@ -10,7 +11,9 @@ use Rattle.fut_typing.specs.Names.{Names}
 use Rattle.fut_typing.specs.Program.{Defined, defined, program_of as typing_of}
 use Rattle.fut_typing.specs.Answers.{NoType, FunctionPlace, Ambiguous}
 use Rattle.elab_scopes.specs.Names.{Refusal}
-use Rattle.elab_scopes.specs.Programs.{FlatProgram, resolve_program}
+use Rattle.elab_scopes.specs.Programs.{FlatProgram}
+use Rattle.elab_scopes.specs.Elaboration.{Elaborates}
+use Rattle.elab_scopes.specs.Imports.{Source_file}
 use Rattle.module_elab.specs.Elaborated.{definition_of, program_of as flat_of}
 use Rattle.type_infer.specs.Inferring.{Has_typing, Infers, Told_by}
 use Rattle.type_scopes.specs.declared.Inference.{Inference}
@@ -25,7 +28,7 @@ use Rattle.typed_programs.specs.declared.typed.TypeErr.TheVariants as types
 use Rattle.typed_programs.proofs.Numbered.{numbered}
 use Rattle.unique_programs.specs.Rules.{Breaks_none}
 use Rattle.unique_programs.specs.declared.misuse.Misuse.TheVariants as misuse
-use Rattle.front.specs.Acceptance.{IsBuiltProgram, IsParsed, IsPrelude, IsResolved, IsUntyped, Resolves, Sizable, Typable, definitions_of, defined_of}
+use Rattle.front.specs.Acceptance.{file_alone, prelude_of, IsBuiltProgram, IsParsed, IsPrelude, IsResolved, IsUntyped, Resolves, Sizable, Typable, definitions_of, defined_of}
 use Rattle.front.specs.Stages.{Is_accepted, Explains, IsMisnamed, Misnames, Overwrites, Unsized, Untyped}
 use Rattle.front.specs.declared.refusals.NameErr.TheVariants as names
 use Rattle.front.specs.declared.refusals.Refused.{Refused}
@@ -52,29 +55,37 @@ sizable ds sizing h = (h.0, h.1, h.2, (h.3.sizes, h.3.sized))
 
 -- ---- names
 
--- of the prelude and a program names are refused so
-pub refused_so : (prelude program : Program) (ps : List Program) (refused : Refused) → IsPrelude prelude → ps ≡ prelude ∷ program ∷ [] → Misnames (resolve_program ps) refused → IsMisnamed program refused
-refused_so prelude program ps (why.Parse err) is same m = m
-refused_so prelude program ps (why.NotBuilt at) is same m = m
-refused_so prelude program ps (why.Names (names.Unbound name at)) is same m = record { prelude = prelude; is_prelude = is; resolved = ap resolve_program (sym same) ∙ m }
-refused_so prelude program ps (why.Names (names.Twice name at)) is same m = record { prelude = prelude; is_prelude = is; resolved = ap resolve_program (sym same) ∙ m }
-refused_so prelude program ps (why.Names (names.NoMember name at)) is same m = record { prelude = prelude; is_prelude = is; resolved = ap resolve_program (sym same) ∙ m }
-refused_so prelude program ps (why.Types err) is same m = m
-refused_so prelude program ps (why.Misfit err) is same m = m
-refused_so prelude program ps (why.Misused err) is same m = m
-refused_so prelude program ps why.Memory is same m = tt
+module _ (P Q : Result FlatProgram Refusal → Type 0) (to : (answer : Result FlatProgram Refusal) → P answer → Q answer) where
+  pub misnames_to : (refused : Refused) → Misnames P refused → Misnames Q refused
+  misnames_to (why.Parse err) m = m
+  misnames_to (why.NotBuilt at) m = m
+  misnames_to (why.Names (names.Unbound name at)) m = to _ m
+  misnames_to (why.Names (names.Twice name at)) m = to _ m
+  misnames_to (why.Names (names.NoMember name at)) m = to _ m
+  misnames_to (why.Types err) m = m
+  misnames_to (why.Misfit err) m = m
+  misnames_to (why.Misused err) m = m
+  misnames_to why.Memory m = tt
+
+-- behind the prelude a program comes to this
+pub resolves_so : (prelude : Program) (path : Text) (program : Program) (files : List Source_file) → IsPrelude prelude → files ≡ prelude_of prelude ∷ file_alone path program → (answer : Result FlatProgram Refusal) → Elaborates files answer → Resolves (file_alone path program) answer
+resolves_so prelude path program files is same answer e = record { prelude = prelude; is_prelude = is; resolved = subst (λ fs. Elaborates fs answer) same e }
+
+-- and its names are refused so
+pub refused_so : (prelude : Program) (path : Text) (program : Program) (files : List Source_file) (refused : Refused) → IsPrelude prelude → files ≡ prelude_of prelude ∷ file_alone path program → Misnames (Elaborates files) refused → IsMisnamed path program refused
+refused_so prelude path program files refused is same m = misnames_to (Elaborates files) (Resolves (file_alone path program)) (resolves_so prelude path program files is same) refused m
 
 -- ---- the whole
 
-module _ (tokens : List Token) (program : Program) (spelled : IsBuiltProgram tokens program) where
-  pub named : (answer : Result FlatProgram Refusal) → Resolves program answer → IsResolved tokens answer
+module _ (path : Text) (tokens : List Token) (program : Program) (spelled : IsBuiltProgram tokens program) where
+  pub named : (answer : Result FlatProgram Refusal) → Resolves (file_alone path program) answer → IsResolved path tokens answer
   named answer resolves = record { program = program; spelled = spelled; resolves = resolves }
 
-  here : (flat : Flat) (a : Accepted) → Resolves program (Ok (flat_of flat)) → Knows flat a → IsResolved tokens (Ok (flat_of a.flat))
-  here flat a resolves knows = named (Ok (flat_of a.flat)) (subst (λ f. Resolves program (Ok (flat_of f))) (sym knows.is) resolves)
+  here : (flat : Flat) (a : Accepted) → Resolves (file_alone path program) (Ok (flat_of flat)) → Knows flat a → IsResolved path tokens (Ok (flat_of a.flat))
+  here flat a resolves knows = named (Ok (flat_of a.flat)) (subst (λ f. Resolves (file_alone path program) (Ok (flat_of f))) (sym knows.is) resolves)
 
-  pub accepted : (flat : Flat) (a : Accepted) (sizing : Sizing) → Resolves program (Ok (flat_of flat)) → Knows flat a → Told_by (Has_sizing (typing_of a.flat) sizing) a.inference → Some_order (Has_sizing (typing_of a.flat) sizing)
-      → Some_order (Breaks_none (typing_of a.flat)) → Is_accepted tokens a sizing
+  pub accepted : (flat : Flat) (a : Accepted) (sizing : Sizing) → Resolves (file_alone path program) (Ok (flat_of flat)) → Knows flat a → Told_by (Has_sizing (typing_of a.flat) sizing) a.inference → Some_order (Has_sizing (typing_of a.flat) sizing)
+      → Some_order (Breaks_none (typing_of a.flat)) → Is_accepted path tokens a sizing
   accepted flat a sizing resolves knows told sized unbroken = record {
     acceptable = record {
       resolved = here flat a resolves knows;
@@ -87,7 +98,7 @@ module _ (tokens : List Token) (program : Program) (spelled : IsBuiltProgram tok
   }
 
   -- names are refused so
-  pub misnamed : (refused : Refused) → IsMisnamed program refused → Explains tokens refused
+  pub misnamed : (refused : Refused) → IsMisnamed path program refused → Explains path tokens refused
   misnamed (why.Parse err) m = absurd m
   misnamed (why.NotBuilt at) m = absurd m
   misnamed (why.Names (names.Unbound name at)) m = named _ m
@@ -98,7 +109,7 @@ module _ (tokens : List Token) (program : Program) (spelled : IsBuiltProgram tok
   misnamed (why.Misused err) m = absurd m
   misnamed why.Memory m = tt
 
-  untyped : (Lacks : Names → List Defined → Type 0) (flat : Flat) → Resolves program (Ok (flat_of flat)) → Some_numbering (λ N. Lacks N (typing_of flat)) → IsUntyped tokens Lacks
+  untyped : (Lacks : Names → List Defined → Type 0) (flat : Flat) → Resolves (file_alone path program) (Ok (flat_of flat)) → Some_numbering (λ N. Lacks N (typing_of flat)) → IsUntyped path tokens Lacks
   untyped Lacks flat resolves some = record {
     flat = flat_of flat;
     resolved = named (Ok (flat_of flat)) resolves;
@@ -106,7 +117,7 @@ module _ (tokens : List Token) (program : Program) (spelled : IsBuiltProgram tok
   }
 
   -- types are refused so
-  pub mistyped : (flat : Flat) (refused : Refused) → Resolves program (Ok (flat_of flat)) → Untyped (typing_of flat) refused → Explains tokens refused
+  pub mistyped : (flat : Flat) (refused : Refused) → Resolves (file_alone path program) (Ok (flat_of flat)) → Untyped (typing_of flat) refused → Explains path tokens refused
   mistyped flat (why.Parse err) resolves m = absurd m
   mistyped flat (why.NotBuilt at) resolves m = absurd m
   mistyped flat (why.Names err) resolves m = absurd m
@@ -119,7 +130,7 @@ module _ (tokens : List Token) (program : Program) (spelled : IsBuiltProgram tok
   mistyped flat why.Memory resolves m = tt
 
   -- sizes are refused so
-  pub unsized : (flat : Flat) (a : Accepted) (refused : Refused) → Resolves program (Ok (flat_of flat)) → Knows flat a → Unsized a.flat refused → Explains tokens refused
+  pub unsized : (flat : Flat) (a : Accepted) (refused : Refused) → Resolves (file_alone path program) (Ok (flat_of flat)) → Knows flat a → Unsized a.flat refused → Explains path tokens refused
   unsized flat a (why.Parse err) resolves knows m = absurd m
   unsized flat a (why.NotBuilt at) resolves knows m = absurd m
   unsized flat a (why.Names err) resolves knows m = absurd m
@@ -132,7 +143,7 @@ module _ (tokens : List Token) (program : Program) (spelled : IsBuiltProgram tok
   unsized flat a why.Memory resolves knows m = tt
 
   -- a rule of aliases and consumption is broken
-  pub misused : (flat : Flat) (a : Accepted) (sizing : Sizing) (refused : Refused) → Resolves program (Ok (flat_of flat)) → Knows flat a → Some_order (Has_sizing (typing_of a.flat) sizing) → Overwrites a.flat refused → Explains tokens refused
+  pub misused : (flat : Flat) (a : Accepted) (sizing : Sizing) (refused : Refused) → Resolves (file_alone path program) (Ok (flat_of flat)) → Knows flat a → Some_order (Has_sizing (typing_of a.flat) sizing) → Overwrites a.flat refused → Explains path tokens refused
   misused flat a sizing (why.Parse err) resolves knows sized m = absurd m
   misused flat a sizing (why.NotBuilt at) resolves knows sized m = absurd m
   misused flat a sizing (why.Names err) resolves knows sized m = absurd m
@@ -147,21 +158,21 @@ module _ (tokens : List Token) (program : Program) (spelled : IsBuiltProgram tok
 
 -- ---- as the stages answer
 
-module _ (tokens : List Token) (program : Program) (parsed : IsParsed tokens program) (built : first_unbuilt tokens ≡ None) where
-  pub accepts : (flat : Flat) (a : Accepted) (sizing : Sizing) → Resolves program (Ok (flat_of flat)) → Knows flat a → Told_by (Has_sizing (typing_of a.flat) sizing) a.inference → Some_order (Has_sizing (typing_of a.flat) sizing)
-      → Some_order (Breaks_none (typing_of a.flat)) → Is_accepted tokens a sizing
-  accepts = accepted tokens program (record { parsed = parsed; built = built })
+module _ (path : Text) (tokens : List Token) (program : Program) (parsed : IsParsed tokens program) (built : first_unbuilt tokens ≡ None) where
+  pub accepts : (flat : Flat) (a : Accepted) (sizing : Sizing) → Resolves (file_alone path program) (Ok (flat_of flat)) → Knows flat a → Told_by (Has_sizing (typing_of a.flat) sizing) a.inference → Some_order (Has_sizing (typing_of a.flat) sizing)
+      → Some_order (Breaks_none (typing_of a.flat)) → Is_accepted path tokens a sizing
+  accepts = accepted path tokens program (record { parsed = parsed; built = built })
 
-  pub misnames : (refused : Refused) → IsMisnamed program refused → Explains tokens refused
-  misnames = misnamed tokens program (record { parsed = parsed; built = built })
+  pub misnames : (refused : Refused) → IsMisnamed path program refused → Explains path tokens refused
+  misnames = misnamed path tokens program (record { parsed = parsed; built = built })
 
-  pub mistypes : (flat : Flat) (refused : Refused) → Resolves program (Ok (flat_of flat)) → Untyped (typing_of flat) refused → Explains tokens refused
-  mistypes = mistyped tokens program (record { parsed = parsed; built = built })
+  pub mistypes : (flat : Flat) (refused : Refused) → Resolves (file_alone path program) (Ok (flat_of flat)) → Untyped (typing_of flat) refused → Explains path tokens refused
+  mistypes = mistyped path tokens program (record { parsed = parsed; built = built })
 
-  pub misfits : (flat : Flat) (a : Accepted) (refused : Refused) → Resolves program (Ok (flat_of flat)) → Knows flat a → Unsized a.flat refused → Explains tokens refused
-  misfits = unsized tokens program (record { parsed = parsed; built = built })
+  pub misfits : (flat : Flat) (a : Accepted) (refused : Refused) → Resolves (file_alone path program) (Ok (flat_of flat)) → Knows flat a → Unsized a.flat refused → Explains path tokens refused
+  misfits = unsized path tokens program (record { parsed = parsed; built = built })
 
-  pub misuses : (flat : Flat) (a : Accepted) (sizing : Sizing) (refused : Refused) → Resolves program (Ok (flat_of flat)) → Knows flat a → Some_order (Has_sizing (typing_of a.flat) sizing) → Overwrites a.flat refused → Explains tokens refused
-  misuses = misused tokens program (record { parsed = parsed; built = built })
+  pub misuses : (flat : Flat) (a : Accepted) (sizing : Sizing) (refused : Refused) → Resolves (file_alone path program) (Ok (flat_of flat)) → Knows flat a → Some_order (Has_sizing (typing_of a.flat) sizing) → Overwrites a.flat refused → Explains path tokens refused
+  misuses = misused path tokens program (record { parsed = parsed; built = built })
 
 pub ruleset joining = (accepts, misnames, mistypes, misfits, misuses)

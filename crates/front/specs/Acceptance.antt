@@ -5,6 +5,7 @@ use Rattle.fut_token.specs.declared.token.Token.{Token}
 use Rattle.fut_lexer.specs.Lexing.{HasTokens}
 use Rattle.fut_ast.specs.Grammar.{Derives}
 use Rattle.fut_ast.specs.LeftOut.{begins_left_out}
+use Rattle.fut_ast.specs.Sorts.{Text}
 use Rattle.fut_ast.specs.Nesting.{Too_deep}
 use Rattle.fut_ast.specs.declared.module.Program.{Program}
 use Rattle.fut_parser.specs.Places.{Ends, place_of}
@@ -20,9 +21,11 @@ use Rattle.fut_typing.specs.Program.{Defined, program_of as typing_of}
 use Rattle.fut_typing.specs.Answers.{Typing_is, NoType, FunctionPlace, Ambiguous}
 use Rattle.elab_scopes.specs.Names.{Refusal}
 use Rattle.elab_scopes.specs.Names as refusal
-use Rattle.elab_scopes.specs.Programs.{FlatDefinition, FlatProgram, resolve_program}
+use Rattle.elab_scopes.specs.Programs.{FlatDefinition, FlatProgram}
+use Rattle.elab_scopes.specs.Elaboration.{Elaborates}
+use Rattle.elab_scopes.specs.Imports.{Source_file}
 use Rattle.module_elab.specs.Elaborated.{program_of as flat_of}
-use Rattle.module_elab.specs.declared.prelude.TheConstants.{PRELUDE}
+use Rattle.module_elab.specs.declared.prelude.TheConstants.{PRELUDE, PRELUDE_PATH}
 use Rattle.unbuilt_tokens.specs.Unbuilt.{first_unbuilt}
 use Rattle.typed_programs.specs.Mistyped.{Some_numbering}
 use Rattle.typed_programs.specs.Ordered.{Some_order}
@@ -87,11 +90,18 @@ pub record IsPrelude (prelude : Program) : Type 0 where
   pub lexed : IsPreludeText tokens
   pub parsed : IsParsed tokens prelude
 
--- behind the prelude the names of a file are resolved to this: its flat program, or the first refusal in order of text
-pub record Resolves (program : Program) (answer : Result FlatProgram Refusal) : Type 0 where
+abbrev pub prelude_of : Program → Source_file
+prelude_of p = record { path = PRELUDE_PATH.now; program = p }
+
+-- a file that imports no other
+abbrev pub file_alone : Text → Program → List Source_file
+file_alone path program = record { path = path; program = program } ∷ []
+
+-- behind the prelude these files come to this: the flat program of what they declare, or the first refusal of names
+pub record Resolves (files : List Source_file) (answer : Result FlatProgram Refusal) : Type 0 where
   pub prelude : Program
   pub is_prelude : IsPrelude prelude
-  pub resolved : resolve_program (prelude ∷ program ∷ []) ≡ answer
+  pub resolved : Elaborates (prelude_of prelude ∷ files) answer
 
 -- ---- types
 
@@ -117,16 +127,16 @@ pub record IsBuiltProgram (tokens : List Token) (program : Program) : Type 0 whe
   pub parsed : IsParsed tokens program
   pub built : first_unbuilt tokens ≡ None
 
--- and its names are resolved to this
-pub record IsResolved (tokens : List Token) (answer : Result FlatProgram Refusal) : Type 0 where
+-- and the file of this path, with this program, comes to this
+pub record IsResolved (path : Text) (tokens : List Token) (answer : Result FlatProgram Refusal) : Type 0 where
   pub program : Program
   pub spelled : IsBuiltProgram tokens program
-  pub resolves : Resolves program answer
+  pub resolves : Resolves (file_alone path program) answer
 
--- The tokens are accepted: behind the prelude they are this flat program, and names and records can be numbered so that it
+-- The tokens of the file of this path are accepted: behind the prelude they are this flat program, and names and records can be numbered so that it
 -- has a typing, and in the order of names so that by one it has a sizing and by one it breaks no rule of aliases and consumption.
-pub record IsAcceptable (tokens : List Token) (flat : FlatProgram) : Type 0 where
-  pub resolved : IsResolved tokens (Ok flat)
+pub record IsAcceptable (path : Text) (tokens : List Token) (flat : FlatProgram) : Type 0 where
+  pub resolved : IsResolved path tokens (Ok flat)
   pub typed : Some_numbering (λ N. Typable N (definitions_of flat))
   pub sized : Some_order (λ N. Sizable N (definitions_of flat))
   pub unbroken : Some_order (Breaks_none (definitions_of flat))
@@ -134,9 +144,9 @@ pub record IsAcceptable (tokens : List Token) (flat : FlatProgram) : Type 0 wher
 -- ---- what is not accepted, and why
 
 -- their flat program has no typing to go on with
-pub record IsUntyped (tokens : List Token) (Lacks : Names → List Defined → Type 0) : Type 0 where
+pub record IsUntyped (path : Text) (tokens : List Token) (Lacks : Names → List Defined → Type 0) : Type 0 where
   pub flat : FlatProgram
-  pub resolved : IsResolved tokens (Ok flat)
+  pub resolved : IsResolved path tokens (Ok flat)
   pub lacks : Some_numbering (λ N. Lacks N (definitions_of flat))
 
 -- it is a program, in which at this place a token of a form stands that is not built, and none before
@@ -147,35 +157,35 @@ pub record IsUnbuilt (tokens : List Token) (at : Place) : Type 0 where
 
 -- Their flat program has a typing by which it has no sizing, for the first reason as the refusal tells it: with the sizes and the
 -- places of its nodes as they stand in a tree of the program.
-pub record IsMisfit (tokens : List Token) (refusal : Misfit) : Type 0 where
+pub record IsMisfit (path : Text) (tokens : List Token) (refusal : Misfit) : Type 0 where
   pub flat : Flat
-  pub resolved : IsResolved tokens (Ok (flat_of flat))
+  pub resolved : IsResolved path tokens (Ok (flat_of flat))
   pub misfits : Misfits (typing_of flat) (texts flat.names.now) (program_places flat.definitions.now) refusal
 
 -- Their flat program has a sizing, and a typing by which it breaks a rule of aliases and consumption, the first of them as the
 -- refusal tells it: with its names, and the places of its nodes as they stand in a tree of the program.
-pub record IsMisused (tokens : List Token) (refusal : Misuse) : Type 0 where
+pub record IsMisused (path : Text) (tokens : List Token) (refusal : Misuse) : Type 0 where
   pub flat : Flat
-  pub resolved : IsResolved tokens (Ok (flat_of flat))
+  pub resolved : IsResolved path tokens (Ok (flat_of flat))
   pub sized : Some_order (λ N. Sizable N (typing_of flat))
   pub breaks : Misused (typing_of flat) (texts flat.names.now) (program_places flat.definitions.now) refusal
 
 -- why the tokens are not accepted. Want of memory says nothing of them.
-abbrev pub Unaccepted : List Token → Refused → Type 0
-Unaccepted tokens (why.Parse err) = Unspelled tokens err
-Unaccepted tokens (why.NotBuilt at) = IsUnbuilt tokens at
-Unaccepted tokens (why.Names (names.Unbound name at)) = IsResolved tokens (Err (refusal.Unbound name at))
-Unaccepted tokens (why.Names (names.Twice name at)) = IsResolved tokens (Err (refusal.Twice name at))
-Unaccepted tokens (why.Names (names.NoMember name at)) = IsResolved tokens (Err (refusal.NoMember name at))
-Unaccepted tokens (why.Types (types.NoType at)) = IsUntyped tokens NoType
-Unaccepted tokens (why.Types (types.FunctionPlace at)) = IsUntyped tokens FunctionPlace
-Unaccepted tokens (why.Types (types.Ambiguous at)) = IsUntyped tokens Ambiguous
-Unaccepted tokens (why.Types types.Memory) = ⊥
-Unaccepted tokens (why.Misfit misfit.Memory) = ⊥
-Unaccepted tokens (why.Misfit err) = IsMisfit tokens err
-Unaccepted tokens (why.Misused misuse.Memory) = ⊥
-Unaccepted tokens (why.Misused err) = IsMisused tokens err
-Unaccepted tokens why.Memory = ⊥
+abbrev pub Unaccepted : Text → List Token → Refused → Type 0
+Unaccepted path tokens (why.Parse err) = Unspelled tokens err
+Unaccepted path tokens (why.NotBuilt at) = IsUnbuilt tokens at
+Unaccepted path tokens (why.Names (names.Unbound name at)) = IsResolved path tokens (Err (refusal.Unbound name at))
+Unaccepted path tokens (why.Names (names.Twice name at)) = IsResolved path tokens (Err (refusal.Twice name at))
+Unaccepted path tokens (why.Names (names.NoMember name at)) = IsResolved path tokens (Err (refusal.NoMember name at))
+Unaccepted path tokens (why.Types (types.NoType at)) = IsUntyped path tokens NoType
+Unaccepted path tokens (why.Types (types.FunctionPlace at)) = IsUntyped path tokens FunctionPlace
+Unaccepted path tokens (why.Types (types.Ambiguous at)) = IsUntyped path tokens Ambiguous
+Unaccepted path tokens (why.Types types.Memory) = ⊥
+Unaccepted path tokens (why.Misfit misfit.Memory) = ⊥
+Unaccepted path tokens (why.Misfit err) = IsMisfit path tokens err
+Unaccepted path tokens (why.Misused misuse.Memory) = ⊥
+Unaccepted path tokens (why.Misused err) = IsMisused path tokens err
+Unaccepted path tokens why.Memory = ⊥
 
 -- the refusal is one of sizes, or of aliases and consumption
 abbrev pub IsBehindTypes : Refused → Type 0

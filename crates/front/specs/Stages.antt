@@ -1,7 +1,8 @@
 -- What the stages of the front answer.
-use Rattle.std.specs.Prelude.{◌≡◌, List, Result, Err}
+use Rattle.std.specs.Prelude.{List, Result, Err}
 use Rattle.fut_token.specs.declared.token.Token.{Token}
 use Rattle.flat_numbers.specs.Places.{program_places}
+use Rattle.fut_ast.specs.Sorts.{Text}
 use Rattle.fut_ast.specs.declared.module.Program.{Program}
 use Rattle.fut_flat.specs.Erased.{texts}
 use Rattle.fut_flat.specs.declared.program.Flat.{Flat}
@@ -23,14 +24,14 @@ use Rattle.typed_programs.specs.declared.typed.Accepted.{Accepted}
 use Rattle.typed_programs.specs.declared.typed.TypeErr.TheVariants as types
 use Rattle.unique_programs.specs.Misuses.{Misused}
 use Rattle.unique_programs.specs.declared.misuse.Misuse.TheVariants as misuse
-use Rattle.front.specs.Acceptance.{IsAcceptable, Resolves, Unaccepted, Unspelled}
+use Rattle.front.specs.Acceptance.{IsAcceptable, Resolves, file_alone, Unaccepted, Unspelled}
 use Rattle.front.specs.declared.refusals.NameErr.TheVariants as names
 use Rattle.front.specs.declared.refusals.Refused.{Refused}
 use Rattle.front.specs.declared.refusals.Refused.TheVariants as why
 
 -- the tokens are accepted, and what is known of their program
-pub record Is_accepted (tokens : List Token) (accepted : Accepted) (sizing : Sizing) : Type 0 where
-  pub acceptable : IsAcceptable tokens (flat_of accepted.flat)
+pub record Is_accepted (path : Text) (tokens : List Token) (accepted : Accepted) (sizing : Sizing) : Type 0 where
+  pub acceptable : IsAcceptable path tokens (flat_of accepted.flat)
   pub known : Is_known accepted
   pub sized : Told_by (Has_sizing (typing_of accepted.flat) sizing) accepted.inference
 
@@ -39,29 +40,21 @@ abbrev pub Misspells : List Token → ParseErr → Type 0
 Misspells tokens parse.Memory = Unit {0}
 Misspells tokens err = Unspelled tokens err
 
--- memory ran out, or names are refused so
-abbrev pub Misnames : Result FlatProgram Refusal → Refused → Type 0
-Misnames answer (why.Parse err) = ⊥
-Misnames answer (why.NotBuilt at) = ⊥
-Misnames answer (why.Names (names.Unbound name at)) = answer ≡ Err (refusal.Unbound name at)
-Misnames answer (why.Names (names.Twice name at)) = answer ≡ Err (refusal.Twice name at)
-Misnames answer (why.Names (names.NoMember name at)) = answer ≡ Err (refusal.NoMember name at)
-Misnames answer (why.Types err) = ⊥
-Misnames answer (why.Misfit err) = ⊥
-Misnames answer (why.Misused err) = ⊥
-Misnames answer why.Memory = Unit {0}
+-- memory ran out, or what comes to an answer comes to this refusal of names
+abbrev pub Misnames : (Result FlatProgram Refusal → Type 0) → Refused → Type 0
+Misnames Come_to (why.Parse err) = ⊥
+Misnames Come_to (why.NotBuilt at) = ⊥
+Misnames Come_to (why.Names (names.Unbound name at)) = Come_to (Err (refusal.Unbound name at))
+Misnames Come_to (why.Names (names.Twice name at)) = Come_to (Err (refusal.Twice name at))
+Misnames Come_to (why.Names (names.NoMember name at)) = Come_to (Err (refusal.NoMember name at))
+Misnames Come_to (why.Types err) = ⊥
+Misnames Come_to (why.Misfit err) = ⊥
+Misnames Come_to (why.Misused err) = ⊥
+Misnames Come_to why.Memory = Unit {0}
 
 -- memory ran out, or the names of a program are refused so
-abbrev pub IsMisnamed : Program → Refused → Type 0
-IsMisnamed program (why.Parse err) = ⊥
-IsMisnamed program (why.NotBuilt at) = ⊥
-IsMisnamed program (why.Names (names.Unbound name at)) = Resolves program (Err (refusal.Unbound name at))
-IsMisnamed program (why.Names (names.Twice name at)) = Resolves program (Err (refusal.Twice name at))
-IsMisnamed program (why.Names (names.NoMember name at)) = Resolves program (Err (refusal.NoMember name at))
-IsMisnamed program (why.Types err) = ⊥
-IsMisnamed program (why.Misfit err) = ⊥
-IsMisnamed program (why.Misused err) = ⊥
-IsMisnamed program why.Memory = Unit {0}
+abbrev pub IsMisnamed : Text → Program → Refused → Type 0
+IsMisnamed path program = Misnames (Resolves (file_alone path program))
 
 -- memory ran out, or these definitions have no typing to go on with
 abbrev pub Untyped : List Defined → Refused → Type 0
@@ -97,6 +90,6 @@ Overwrites flat (why.Misused err) = Misused (typing_of flat) (texts flat.names.n
 Overwrites flat why.Memory = Unit {0}
 
 -- memory ran out, or the tokens are not accepted for this reason
-abbrev pub Explains : List Token → Refused → Type 0
-Explains tokens why.Memory = Unit {0}
-Explains tokens reason = Unaccepted tokens reason
+abbrev pub Explains : Text → List Token → Refused → Type 0
+Explains path tokens why.Memory = Unit {0}
+Explains path tokens reason = Unaccepted path tokens reason

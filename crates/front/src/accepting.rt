@@ -1,11 +1,11 @@
 // From tokens to an accepted program.
-ghost use Rattle.std.specs.Prelude.{◌≡◌, [], ◌∷◌, IfOk, IfErr, Ok, OnOk, Result};
-ghost use Rattle.elab_scopes.specs.Names.{Refusal};
-ghost use Rattle.elab_scopes.specs.Programs.{FlatProgram};
-ghost use Rattle.fut_tree.specs.Names.{all};
+ghost use Rattle.std.specs.Prelude.{◌≡◌, ◌∷◌, List, IfOk, IfErr, Ok, OnOk};
+ghost use Rattle.elab_scopes.specs.Elaboration.{Elaborates};
+ghost use Rattle.elab_scopes.specs.Imports.{Source_file};
+ghost use Rattle.module_state.specs.Written.{files_of};
 ghost use Rattle.fut_typing.specs.Program.{program_of as typing_of};
 ghost use Rattle.module_elab.specs.Elaborated.{program_of as flat_of, Tells};
-ghost use Rattle.front.specs.Acceptance.{IsParsed, IsPreludeText, Resolves};
+ghost use Rattle.front.specs.Acceptance.{IsParsed, IsPreludeText, Resolves, file_alone, prelude_of};
 ghost use Rattle.sized_programs.specs.Sizings.{Has_sizing};
 ghost use Rattle.type_infer.specs.Inferring.{Told_by};
 ghost use Rattle.typed_programs.specs.Known.{Is_known, Knows};
@@ -20,8 +20,9 @@ use fut_flat::Flat;
 use fut_parser::{ParseErr, parse};
 use fut_scalar::{Name, NoMemory};
 use fut_token::Token;
-use fut_tree::{Held, Program};
-use module_elab::{ModErr, PRELUDE_PATH, SourceSet, elaborate};
+use fut_tree::Program;
+use module_elab::{ModErr, PRELUDE_PATH, elaborate};
+use module_state::SourceFile;
 use sized_programs::{Misfit, SizedProgram, Sizing, sized_program};
 use std::alloc::Global;
 use typed_programs::{Accepted, TypeErr, typed_program};
@@ -30,9 +31,6 @@ use unique_programs::{Misuse, unique_program};
 
 /// The number of the named file: the first in load order.
 const NAMED_FILE: u32 = 1;
-
-/// The paths of the files. No name of a file is asked for here.
-const PATHS: [&str; 2] = [PRELUDE_PATH, ""];
 
 /// The program that the tokens of the file spell.
 fn parsed<'a>(bump: &'a Bump, tokens: &'a [Token]) -> Result<Program<'a>, ParseErr>
@@ -43,30 +41,34 @@ fn parsed<'a>(bump: &'a Bump, tokens: &'a [Token]) -> Result<Program<'a>, ParseE
 }
 
 /// A tree, held by the arena.
-fn held<'a>(bump: &'a Bump, program: Program<'a>) -> Result<Held<'a, Program<'a>>, NoMemory>
-    ensures { IfOk result (λ held. held.at.now ≡ program.entry) }
+fn held<'a>(bump: &'a Bump, program: Program<'a>) -> Result<&'a Program<'a>, NoMemory>
+    ensures { IfOk result (λ held. held.now ≡ program.entry) }
 {
     match bump.try_alloc(program) {
-        Ok(at) => Ok(Held { at }),
-        Err(_) => Err(NoMemory),
+        Ok(at) => Ok(at),
+        Err(_failed) => Err(NoMemory),
     }
 }
 
 /// The prelude and a file, in load order.
-fn source_set<'a>(
+fn source_files<'a>(
     bump: &'a Bump,
     prelude: Program<'a>,
+    path: &'a str,
     program: Program<'a>,
-) -> Result<SourceSet<'a>, NoMemory>
-    ensures { IfOk result (λ set. all set.programs.now ≡ prelude.entry ∷ program.entry ∷ []) }
+) -> Result<&'a [SourceFile<'a>], NoMemory>
+    ensures { IfOk result (λ files. files_of files.now ≡ prelude_of prelude.entry ∷ file_alone path.now program.entry) }
 {
-    let prelude = held(bump, prelude)?;
-    let program = held(bump, program)?;
-    match bump.try_alloc_slice_copy(&[prelude, program]) {
-        Ok(programs) => Ok(SourceSet {
-            names: &PATHS,
-            programs,
-        }),
+    let prelude = SourceFile {
+        path: PRELUDE_PATH,
+        program: held(bump, prelude)?,
+    };
+    let file = SourceFile {
+        path,
+        program: held(bump, program)?,
+    };
+    match bump.try_alloc_slice_copy(&[prelude, file]) {
+        Ok(files) => Ok(files),
         Err(_) => Err(NoMemory),
     }
 }
@@ -74,7 +76,7 @@ fn source_set<'a>(
 /// A refusal of names, which owns its name. One of a form that is not built, which tokens tell before, is want of memory, and
 /// so are those of modules, which files without modules do not have.
 fn misnamed(alloc: Global, err: ModErr<'_>) -> Refused
-    ensures { (answer : Result FlatProgram Refusal) → Tells answer err.entry → Misnames answer result }
+    ensures { (files : List Source_file) → Tells (Elaborates files) err.entry → Misnames (Elaborates files) result }
 {
     match err {
         ModErr::Unbound { name, at } => match Name::new(alloc, name) {
@@ -101,19 +103,20 @@ fn resolved<'a>(
     alloc: Global,
     bump: &'a Bump,
     prelude: &'a Prelude,
+    path: &'a str,
     program: Program<'a>,
 ) -> Result<Flat<'a>, Refused>
     requires prelude { IsPreludeText prelude.now.tokens }
-    ensures ok { IfOk result (λ flat. Resolves program.entry (Ok (flat_of flat))) }
-    ensures err { IfErr result (IsMisnamed program.entry) }
+    ensures ok { IfOk result (λ flat. Resolves (file_alone path.now program.entry) (Ok (flat_of flat))) }
+    ensures err { IfErr result (IsMisnamed path.now program.entry) }
 {
     let Ok(prelude) = prelude_tree(bump, prelude) else {
         return Err(Refused::Memory);
     };
-    let Ok(set) = source_set(bump, prelude, program) else {
+    let Ok(files) = source_files(bump, prelude, path, program) else {
         return Err(Refused::Memory);
     };
-    match elaborate(alloc, bump, &set) {
+    match elaborate(alloc, bump, files) {
         Ok(flat) => Ok(flat),
         Err(err) => Err(misnamed(alloc, err)),
     }
@@ -188,7 +191,7 @@ fn unbroken<'a>(alloc: Global, bump: &'a Bump, accepted: &'a Accepted<'a>) -> Re
     }
 }
 
-/// The program that the tokens of a file spell behind the prelude, or why it is not accepted. It lies in the arena with its trees.
+/// The program that the tokens of the file of this path spell behind the prelude, or why it is not accepted. It lies in the arena with its trees.
 ///
 /// The cost is linear in the tokens, but for what types, sizes and the sets of aliases cost.
 #[tactic(auto, using(crate::proofs::Joining::joining))]
@@ -196,11 +199,12 @@ pub fn accept<'a>(
     alloc: Global,
     bump: &'a Bump,
     prelude: &'a Prelude,
+    path: &'a str,
     tokens: &'a [Token],
 ) -> Result<SizedProgram<'a>, Refused>
     requires prelude { IsPreludeText prelude.now.tokens }
-    ensures accepted { IfOk result (λ program. Is_accepted tokens.now program.accepted.now program.sizing.now) }
-    ensures refused { IfErr result (Explains tokens.now) }
+    ensures accepted { IfOk result (λ program. Is_accepted path.now tokens.now program.accepted.now program.sizing.now) }
+    ensures refused { IfErr result (Explains path.now tokens.now) }
 {
     let program = match parsed(bump, tokens) {
         Ok(program) => program,
@@ -210,7 +214,7 @@ pub fn accept<'a>(
     if let Some(at) = first_unbuilt(tokens) {
         return Err(Refused::NotBuilt { at });
     }
-    let flat = match resolved(alloc, bump, prelude, program) {
+    let flat = match resolved(alloc, bump, prelude, path, program) {
         Ok(flat) => flat,
         Err(refused) => return Err(refused),
     };

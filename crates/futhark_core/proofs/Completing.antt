@@ -13,7 +13,8 @@ use Rattle.fut_ast.specs.declared.module.Program.{Program}
 use Rattle.fut_parser.specs.declared.programs.ParseErr.{ParseErr}
 use Rattle.fut_parser.specs.declared.programs.ParseErr.TheVariants as parse
 use Rattle.elab_scopes.specs.Names.{Refusal}
-use Rattle.elab_scopes.specs.Programs.{FlatProgram, resolve_program}
+use Rattle.elab_scopes.specs.Programs.{FlatProgram}
+use Rattle.elab_scopes.specs.Elaboration.{Elaborates}
 use Rattle.module_elab.specs.Elaborated.{program_of as flat_of}
 use Rattle.typed_programs.specs.declared.typed.TypeErr.{TypeErr}
 use Rattle.typed_programs.specs.declared.typed.TypeErr.TheVariants as types
@@ -52,7 +53,7 @@ use Rattle.futhark_core.proofs.Settling.{EndsAs, Holds, Settles, SizesRefusal, T
 
 -- ---- entries
 
-module _ (source : Source) (name : List ℕ) (turns : ℕ) (resolved : resolve_program source.files ≡ Ok (flat_of source.flat)) where
+module _ (source : Source) (name : List ℕ) (turns : ℕ) (resolved : Elaborates source.files (Ok (flat_of source.flat))) where
   abbrev flat : FlatProgram
   flat = flat_of source.flat
 
@@ -147,16 +148,16 @@ module _ (source : Source) (name : List ℕ) (turns : ℕ) (resolved : resolve_p
 
 -- ---- why tokens are not accepted
 
-unnamed : (tokens : List Token) (err : NameErr) → Unaccepted tokens (refused.Names err) → IsResolved tokens (Err (refusal_of err))
-unnamed tokens (names.Unbound name at) u = u
-unnamed tokens (names.Twice name at) u = u
-unnamed tokens (names.NoMember name at) u = u
+unnamed : (path : List ℕ) (tokens : List Token) (err : NameErr) → Unaccepted path tokens (refused.Names err) → IsResolved path tokens (Err (refusal_of err))
+unnamed path tokens (names.Unbound name at) u = u
+unnamed path tokens (names.Twice name at) u = u
+unnamed path tokens (names.NoMember name at) u = u
 
-untyped_so : (tokens : List Token) (err : TypeErr) → Unaccepted tokens (refused.Types err) → IsUntyped tokens (Lacks err)
-untyped_so tokens (types.NoType at) u = u
-untyped_so tokens (types.FunctionPlace at) u = u
-untyped_so tokens (types.Ambiguous at) u = u
-untyped_so tokens types.Memory u = absurd u
+untyped_so : (path : List ℕ) (tokens : List Token) (err : TypeErr) → Unaccepted path tokens (refused.Types err) → IsUntyped path tokens (Lacks err)
+untyped_so path tokens (types.NoType at) u = u
+untyped_so path tokens (types.FunctionPlace at) u = u
+untyped_so path tokens (types.Ambiguous at) u = u
+untyped_so path tokens types.Memory u = absurd u
 
 module _ (words : List (List ℕ)) (old new : Outside) (quiet : NoFault old new) where
   abbrev files : Option (List (List ℕ × List ℕ))
@@ -247,7 +248,7 @@ module _ (words : List (List ℕ)) (old new : Outside) (quiet : NoFault old new)
         parsed (parse.TooDeep place) h = tree_refused (parse.TooDeep place) (λ program k le is. let deep = h.deep program k is in omega arith)
         parsed parse.Memory h = absurd h
 
-        not_built : (place : _) → Unaccepted tokens (refused.NotBuilt place) → Ends (status_for (why.NotBuilt place) asked.file)
+        not_built : (place : _) → Unaccepted asked.file tokens (refused.NotBuilt place) → Ends (status_for (why.NotBuilt place) asked.file)
         not_built place u =
             let status = status_for (why.NotBuilt place) asked.file in
             refused_with status (from_tokens (λ end. end ≡ Err status)
@@ -255,44 +256,44 @@ module _ (words : List (List ℕ)) (old new : Outside) (quiet : NoFault old new)
             (then_err (Built asked.file tokens u.program) _ status (built_err asked.file tokens u.program place u.unbuilt))))
 
         -- of what its names come to this holds, so of the file
-        from_names : (answer : Result FlatProgram Refusal) (r : IsResolved tokens answer) (P : Result FlatProgram Status → Type 0)
+        from_names : (answer : Result FlatProgram Refusal) (r : IsResolved asked.file tokens answer) (P : Result FlatProgram Status → Type 0)
             → Holds (Then (Named asked.file r.program) Typed_apart) P → Holds (Accepted files asked.file) P
         from_names answer r P h = from_tokens P
             (then_ok (Parsed asked.file tokens) _ P r.program (parsed_ok asked.file tokens r.program r.spelled.parsed)
             (then_ok (Built asked.file tokens r.program) _ P r.program (built_ok asked.file tokens r.program r.spelled.built) h))
 
-        named_so : (err : NameErr) → Unaccepted tokens (refused.Names err) → Ends (status_for (why.Names err) asked.file)
+        named_so : (err : NameErr) → Unaccepted asked.file tokens (refused.Names err) → Ends (status_for (why.Names err) asked.file)
         named_so err u =
-            let r = unnamed tokens err u in
+            let r = unnamed asked.file tokens err u in
             let status = status_for (why.Names err) asked.file in
             refused_with status (from_names (Err (refusal_of err)) r (λ end. end ≡ Err status)
             (then_err (Named asked.file r.program) _ status (named_err asked.file r.program err r.resolves)))
 
-        typed_so : (err : TypeErr) → Unaccepted tokens (refused.Types err) → Ends (status_for (why.Types err) asked.file)
+        typed_so : (err : TypeErr) → Unaccepted asked.file tokens (refused.Types err) → Ends (status_for (why.Types err) asked.file)
         typed_so err u =
-            let t = untyped_so tokens err u in
+            let t = untyped_so asked.file tokens err u in
             untyped err (from_names (Ok t.flat) t.resolved (EndsAs (TypesRefusal asked.file err))
             (then_ok (Named asked.file t.resolved.program) _ (EndsAs (TypesRefusal asked.file err)) t.flat (named_ok asked.file t.resolved.program t.flat t.resolved.resolves)
             (then_ends (Typed asked.file t.flat) _ (TypesRefusal asked.file err) (typed_err asked.file t.flat err t.lacks))))
 
-        sizes_so : (err : Misfit) → Unaccepted tokens (refused.Misfit err) → Ends (status_for (why.Sizes err) asked.file)
+        sizes_so : (err : Misfit) → Unaccepted asked.file tokens (refused.Misfit err) → Ends (status_for (why.Sizes err) asked.file)
         sizes_so err u =
-            let m = misfits tokens err u in
+            let m = misfits asked.file tokens err u in
             misfitting err (from_names (Ok m.flat) m.resolved (EndsAs (SizesRefusal asked.file))
             (then_ok (Named asked.file m.resolved.program) _ (EndsAs (SizesRefusal asked.file)) m.flat (named_ok asked.file m.resolved.program m.flat m.resolved.resolves)
             (then_ok (Typed asked.file m.flat) _ (EndsAs (SizesRefusal asked.file)) m.flat (typed_ok asked.file m.flat (misfit_typable m.flat m.N m.are m.refusal m.first))
             (then_ends (Sized asked.file m.flat) _ (SizesRefusal asked.file) (sized_err asked.file m.flat m.N m.are m.order m.refusal m.first)))))
 
-        unique_so : (err : Misuse) → Unaccepted tokens (refused.Misused err) → Ends (status_for (why.Unique err) asked.file)
+        unique_so : (err : Misuse) → Unaccepted asked.file tokens (refused.Misused err) → Ends (status_for (why.Unique err) asked.file)
         unique_so err u =
-            let b = breaks tokens err u in
+            let b = breaks asked.file tokens err u in
             overwrites err (from_names (Ok b.flat) b.resolved (EndsAs (UniqueRefusal asked.file))
             (then_ok (Named asked.file b.resolved.program) _ (EndsAs (UniqueRefusal asked.file)) b.flat (named_ok asked.file b.resolved.program b.flat b.resolved.resolves)
             (then_ok (Typed asked.file b.flat) _ (EndsAs (UniqueRefusal asked.file)) b.flat (typed_ok asked.file b.flat (typable b.flat b.N b.are b.rule b.first))
             (then_ok (Sized asked.file b.flat) _ (EndsAs (UniqueRefusal asked.file)) b.flat (sized_ok asked.file b.flat b.sized)
             (unbroken_err asked.file b.flat b.N b.are b.order b.rule b.first)))))
 
-        explained : (reason : Why) → UnacceptedTokens tokens reason → Ends (status_for reason asked.file)
+        explained : (reason : Why) → UnacceptedTokens asked.file tokens reason → Ends (status_for reason asked.file)
         explained (why.Parse err) u = parsed err u
         explained (why.NotBuilt place) u = not_built place u
         explained (why.Names err) u = named_so err u
@@ -304,7 +305,7 @@ module _ (words : List (List ℕ)) (old new : Outside) (quiet : NoFault old new)
         explained why.FileBytes u = absurd u
         explained why.Memory u = absurd u
 
-      of_tokens : (reason : Why) → LexedUnaccepted body reason → Ends (status_for reason asked.file)
+      of_tokens : (reason : Why) → LexedUnaccepted asked.file body reason → Ends (status_for reason asked.file)
       of_tokens reason u = explained u.tokens (tokenized_ok asked.file body u.tokens u.lexed) reason u.unaccepted
 
   -- a row of the front, whose path is that of the command
@@ -437,8 +438,8 @@ module _ (words : List (List ℕ)) (old new : Outside) (quiet : NoFault old new)
     abbrev entry : List ℕ
     entry = asked.entry
 
-    resolved : resolve_program source.files ≡ Ok (flat_of source.flat)
-    resolved = let t = s.accepted.accepted.accepted in ap resolve_program t.files ∙ t.acceptable.resolved.resolves.resolved
+    resolved : Elaborates source.files (Ok (flat_of source.flat))
+    resolved = let t = s.accepted.accepted.accepted in subst (λ files. Elaborates files (Ok (flat_of source.flat))) (sym t.files) t.acceptable.resolved.resolves.resolved
 
     -- what is done is this
     done : (action : Action) → asked.action ≡ action → (status : Status) → Holds (Done_with action asked old.input.left (flat_of source.flat)) (Agrees status) → Ends status

@@ -1,5 +1,5 @@
 -- A source that is refused because of its sizes has a refusal of the definition by some typing.
-use Rattle.std.proofs.Common.{List, sym, subst}
+use Rattle.std.proofs.Common.{ℕ, List, sym, subst}
 use Rattle.std.specs.Prelude.{Ok, Err}
 use Rattle.fut_ast.specs.Sorts.{Text}
 use Rattle.fut_scalar.specs.declared.place.Place.{Place}
@@ -21,9 +21,9 @@ use Rattle.front.specs.Acceptance.{IsResolved, Typable, Unaccepted, definitions_
 use Rattle.front.specs.declared.refusals.Refused.TheVariants as refused
 use Rattle.front.proofs.Joining.{same_definitions}
 
-pub record Misfits (tokens : List Token) : Type 0 where
+pub record Misfits (path : List ℕ) (tokens : List Token) : Type 0 where
   pub flat : FlatProgram
-  pub resolved : IsResolved tokens (Ok flat)
+  pub resolved : IsResolved path tokens (Ok flat)
   pub N : Numbering
   pub are : AreNames N
   pub order : In_order N
@@ -33,8 +33,8 @@ pub record Misfits (tokens : List Token) : Type 0 where
 pub typable : (flat : FlatProgram) (N : Numbering) → AreNames N → (refusal : Refusal) → Is_sized (definitions_of flat) (Err refusal) N → Some_numbering (λ N. Typable N (definitions_of flat))
 typable flat N are refusal first = (N, are, (first.types, first.typing))
 
-module _ (tokens : List Token) where
-  by : (flat : Flat) → IsResolved tokens (Ok (flat_of flat)) → (names : List Text) (places : List Place) (err : Misfit) → Some_order (Is_refused (typing_of flat) names places err) → Misfits tokens
+module _ (path : List ℕ) (tokens : List Token) where
+  by : (flat : Flat) → IsResolved path tokens (Ok (flat_of flat)) → (names : List Text) (places : List Place) (err : Misfit) → Some_order (Is_refused (typing_of flat) names places err) → Misfits path tokens
   by flat resolved names places err some = record {
     flat = flat_of flat;
     resolved = resolved;
@@ -45,7 +45,7 @@ module _ (tokens : List Token) where
     first = subst (λ ds. Is_sized ds (Err some.3.refusal) some.0) (sym (same_definitions flat)) some.3.first;
   }
 
-  pub misfits : (err : Misfit) → Unaccepted tokens (refused.Misfit err) → Misfits tokens
+  pub misfits : (err : Misfit) → Unaccepted path tokens (refused.Misfit err) → Misfits path tokens
   misfits (misfit.SizesDiffer left right at) u = by u.flat u.resolved _ _ _ u.misfits
   misfits (misfit.Escapes at) u = by u.flat u.resolved _ _ _ u.misfits
   misfits (misfit.Irregular at) u = by u.flat u.resolved _ _ _ u.misfits

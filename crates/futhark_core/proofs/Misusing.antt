@@ -1,5 +1,5 @@
 -- A source that is refused because of a rule of aliases and consumption breaks one by some typing.
-use Rattle.std.proofs.Common.{List, sym, subst}
+use Rattle.std.proofs.Common.{ℕ, List, sym, subst}
 use Rattle.std.specs.Prelude.{Some, Ok}
 use Rattle.fut_ast.specs.Sorts.{Text}
 use Rattle.fut_scalar.specs.declared.place.Place.{Place}
@@ -21,9 +21,9 @@ use Rattle.front.specs.Acceptance.{IsResolved, Sizable, Typable, Unaccepted, def
 use Rattle.front.specs.declared.refusals.Refused.TheVariants as refused
 use Rattle.front.proofs.Joining.{same_definitions}
 
-pub record Breaks (tokens : List Token) : Type 0 where
+pub record Breaks (path : List ℕ) (tokens : List Token) : Type 0 where
   pub flat : FlatProgram
-  pub resolved : IsResolved tokens (Ok flat)
+  pub resolved : IsResolved path tokens (Ok flat)
   pub N : Numbering
   pub are : AreNames N
   pub order : In_order N
@@ -34,8 +34,8 @@ pub record Breaks (tokens : List Token) : Type 0 where
 pub typable : (flat : FlatProgram) (N : Numbering) → AreNames N → (rule : Broken) → First_broken (definitions_of flat) (Some rule) N → Some_numbering (λ N. Typable N (definitions_of flat))
 typable flat N are rule first = (N, are, (first.types, first.typing))
 
-module _ (tokens : List Token) where
-  by : (flat : Flat) → IsResolved tokens (Ok (flat_of flat)) → Some_order (λ N. Sizable N (typing_of flat)) → (names : List Text) (places : List Place) (err : Misuse) → Some_order (Is_broken (typing_of flat) names places err) → Breaks tokens
+module _ (path : List ℕ) (tokens : List Token) where
+  by : (flat : Flat) → IsResolved path tokens (Ok (flat_of flat)) → Some_order (λ N. Sizable N (typing_of flat)) → (names : List Text) (places : List Place) (err : Misuse) → Some_order (Is_broken (typing_of flat) names places err) → Breaks path tokens
   by flat resolved sized names places err some = record {
     flat = flat_of flat;
     resolved = resolved;
@@ -47,7 +47,7 @@ module _ (tokens : List Token) where
     first = subst (λ ds. First_broken ds (Some some.3.rule) some.0) (sym (same_definitions flat)) some.3.first;
   }
 
-  pub breaks : (err : Misuse) → Unaccepted tokens (refused.Misused err) → Breaks tokens
+  pub breaks : (err : Misuse) → Unaccepted path tokens (refused.Misused err) → Breaks path tokens
   breaks (misuse.Consumed name at used) u = by u.flat u.resolved u.sized _ _ _ u.breaks
   breaks (misuse.NotConsumable name at) u = by u.flat u.resolved u.sized _ _ _ u.breaks
   breaks (misuse.Captured name at) u = by u.flat u.resolved u.sized _ _ _ u.breaks

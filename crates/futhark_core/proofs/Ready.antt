@@ -10,10 +10,10 @@ use Rattle.fut_flat.specs.declared.program.Flat.{Flat}
 use Rattle.fut_flat.specs.declared.prim.Ref.{Ref}
 use Rattle.fut_meaning.specs.Found.{Sizing as TheSizing}
 use Rattle.fut_meaning.specs.Datums.{as_values}
-use Rattle.fut_ast.specs.declared.module.Program.{Program as SourceProgram}
 use Rattle.fut_blocks.specs.declared.block.Program.{Program}
 use Rattle.fut_blocks.specs.Programs.{Rising}
-use Rattle.elab_scopes.specs.Programs.{resolve_program}
+use Rattle.elab_scopes.specs.Elaboration.{Elaborates}
+use Rattle.elab_scopes.specs.Imports.{Source_file}
 use Rattle.module_elab.specs.Elaborated.{program_of as flat_of}
 use Rattle.type_infer.specs.Inferring.{Numbers, Told_by}
 use Rattle.typed_programs.specs.Typed.{Typed_by, integer_at}
@@ -110,7 +110,7 @@ module _ {accepted : Accepted} {sizing : Sizing} (known : Is_known accepted) (si
   entered_as number params tuple results wanted = record { number = number; params = params; tuple = tuple; results = results; wanted = wanted; integer_at = integer_at accepted.integers; sizing = Z }
 
   -- it is typed so in the typing that the graph shows, by which the source has its sizes
-  typed_as : (files : List SourceProgram) (at number : ℕ) (definition : Definition) → (slice_index_or flat.definitions.now at definition).bind.0 ≡ number → (params : List DataType) (tuple : Bool) (results : List DataType) (wanted : List ArgType)
+  typed_as : (files : List Source_file) (at number : ℕ) (definition : Definition) → (slice_index_or flat.definitions.now at definition).bind.0 ≡ number → (params : List DataType) (tuple : Bool) (results : List DataType) (wanted : List ArgType)
       → May_be_used flat accepted.inference at params tuple results → IsTypedAs (record { files = files; flat = flat }) (entered_as number params tuple results wanted)
   typed_as files at number definition is params tuple results wanted usable = record {
     names = N;
@@ -144,7 +144,7 @@ module _ {accepted : Accepted} {sizing : Sizing} (known : Is_known accepted) (si
     abbrev pub usable : Is_usable flat accepted.inference entry.number entry.ty.params entry.ty.tuple entry.ty.results
     usable = record { at = entry.at; definition = found.begins.definition; is = found.number found.begins.definition; usable = found.usable }
 
-    entered_here : (files : List SourceProgram) → IsEntered (record { files = files; flat = flat }) name entered
+    entered_here : (files : List Source_file) → IsEntered (record { files = files; flat = flat }) name entered
     unfolding typed_as
     entered_here files = record {
       at = entry.at;
@@ -162,14 +162,14 @@ module _ {accepted : Accepted} {sizing : Sizing} (known : Is_known accepted) (si
     wanted = are_wanted entry.ty.params (node_at sizing.nodes (number_of flat entry.at)) entry.wanted found.wants
 
     -- the files allow some answer for all arguments of its types
-    some_answer : (files : List SourceProgram) (turns : ℕ) → resolve_program files ≡ Ok (flat_of flat) → Answers (record { files = files; flat = flat }) entered turns
+    some_answer : (files : List Source_file) (turns : ℕ) → Elaborates files (Ok (flat_of flat)) → Answers (record { files = files; flat = flat }) entered turns
     some_answer files turns is arguments of = let a = files_allow_some flat accepted.inference accepted.integers Z entry.number entry.ty.params entry.ty.tuple entry.ty.results known.typed is_told usable files is true turns arguments of in (a.0, a.1, (a.3, a.2))
 
-    answers : (source : Source) → source.flat ≡ flat → resolve_program source.files ≡ Ok (flat_of source.flat) → (turns : ℕ) → Answers source entered turns
-    answers source e is turns = subst (λ (f : Flat). Answers (record { files = source.files; flat = f }) entered turns) (sym e) (some_answer source.files turns (is ∙ ap (λ f. Ok (flat_of f)) e))
+    answers : (source : Source) → source.flat ≡ flat → Elaborates source.files (Ok (flat_of source.flat)) → (turns : ℕ) → Answers source entered turns
+    answers source e is turns = subst (λ (f : Flat). Answers (record { files = source.files; flat = f }) entered turns) (sym e) (some_answer source.files turns (subst (λ f. Elaborates source.files (Ok (flat_of f))) e is))
 
     -- a limit is passed, or memory ran out
-    pub unready : (asked : Command) (source : Source) (old : Streams) → asked.entry ≡ name → source.flat ≡ flat → resolve_program source.files ≡ Ok (flat_of source.flat) → (err : PrepareErr) → Is_past flat Z entry.number entry.ty.params err → ProgramRow (unprepared err) asked source old old
+    pub unready : (asked : Command) (source : Source) (old : Streams) → asked.entry ≡ name → source.flat ≡ flat → Elaborates source.files (Ok (flat_of source.flat)) → (err : PrepareErr) → Is_past flat Z entry.number entry.ty.params err → ProgramRow (unprepared err) asked source old old
     unready asked source old named same is prepare.Nodes past =
         record { entered = entered; is_entered = rw named (is_entered source same); answers = answers source same is asked.turns; past = subst (λ (f : Flat). Measures (Some Z) (flat_tops 0 (named_terms f)) entry.number.0 (length entry.ty.params) (Err measure.Nodes)) (sym same) past; quiet = refl }
     unready asked source old named same is prepare.Depth past =
@@ -189,13 +189,13 @@ module _ {accepted : Accepted} {sizing : Sizing} (known : Is_known accepted) (si
       pub never_wrong_for : (turns : ℕ) → Never_wrong_for entry.ty.params turns p
       never_wrong_for turns arguments of = (runs turns arguments of).never_wrong
 
-      pub runs_for : (source : Source) → source.flat ≡ flat → resolve_program source.files ≡ Ok (flat_of source.flat) → (turns : ℕ) → Runs_for source entered turns p
+      pub runs_for : (source : Source) → source.flat ≡ flat → Elaborates source.files (Ok (flat_of source.flat)) → (turns : ℕ) → Runs_for source entered turns p
       runs_for source e is turns = subst (λ (f : Flat). Runs_for (record { files = source.files; flat = f }) entered turns p) (sym e) (record {
-        gives = λ arguments of vs f x. let g = (runs turns arguments of).gives source.files (is ∙ ap (λ f. Ok (flat_of f)) e) vs f x in (g.0, g.1, (g.3, g.2));
-        fails = λ arguments of r f x. ((runs turns arguments of).fails source.files (is ∙ ap (λ f. Ok (flat_of f)) e) r f x, tt);
+        gives = λ arguments of vs f x. let g = (runs turns arguments of).gives source.files (subst (λ f. Elaborates source.files (Ok (flat_of f))) e is) vs f x in (g.0, g.1, (g.3, g.2));
+        fails = λ arguments of r f x. ((runs turns arguments of).fails source.files (subst (λ f. Elaborates source.files (Ok (flat_of f))) e is) r f x, tt);
       })
 
-      pub is_ready : (asked : Command) (source : Source) → asked.entry ≡ name → source.flat ≡ flat → resolve_program source.files ≡ Ok (flat_of source.flat) → IsReady asked source entered
+      pub is_ready : (asked : Command) (source : Source) → asked.entry ≡ name → source.flat ≡ flat → Elaborates source.files (Ok (flat_of source.flat)) → IsReady asked source entered
       is_ready asked source named same is = record {
         entered = rw named (is_entered source same);
         answers = answers source same is asked.turns;
@@ -207,7 +207,7 @@ module _ {accepted : Accepted} {sizing : Sizing} (known : Is_known accepted) (si
 
   module _ (name : List ℕ) (at : ℕ) (begins : Begins_at flat name at) where
     -- so nothing is entered under its name
-    module _ (files : List SourceProgram) (e : Entered) (is : IsEntered (record { files = files; flat = flat }) name e) where
+    module _ (files : List Source_file) (e : Entered) (is : IsEntered (record { files = files; flat = flat }) name e) where
       here_too : (other : Definition) → slice_index_or flat.definitions.now at other ≡ is.begins.definition
       here_too other = ap (λ i. slice_index_or flat.definitions.now i other) (sym (one_place flat name is.at at is.begins begins)) ∙ here is.at is.begins.definition is.begins.is other
 
@@ -226,7 +226,7 @@ module _ {accepted : Accepted} {sizing : Sizing} (known : Is_known accepted) (si
       none_entered (inr other) = other begins.definition N known.typed.some.1 own.kinds own.types own.typed.typed own.comes e.params e.tuple e.results also_here
 
     -- or it wants other sizes
-    wants_others : (files : List SourceProgram) → Is_wanting accepted sizing at → Wants_others (record { files = files; flat = flat }) at begins.definition
+    wants_others : (files : List Source_file) → Is_wanting accepted sizing at → Wants_others (record { files = files; flat = flat }) at begins.definition
     unfolding typed_as
     wants_others files w = record {
       entered = entered_as begins.definition.bind.0 w.params w.tuple w.results [];
@@ -235,7 +235,7 @@ module _ {accepted : Accepted} {sizing : Sizing} (known : Is_known accepted) (si
       none = wants_as at w.params None w.none;
     }
 
-    not_here : (files : List SourceProgram) → Is_outside flat accepted.inference at ⊎ Is_wanting accepted sizing at → ((e : Entered) → IsEntered (record { files = files; flat = flat }) name e → ⊥) ⊎ Wants_others (record { files = files; flat = flat }) at begins.definition
+    not_here : (files : List Source_file) → Is_outside flat accepted.inference at ⊎ Is_wanting accepted sizing at → ((e : Entered) → IsEntered (record { files = files; flat = flat }) name e → ⊥) ⊎ Wants_others (record { files = files; flat = flat }) at begins.definition
     not_here files (inl x) = inl (λ e is. none_entered files e is x)
     not_here files (inr w) = inr (wants_others files w)
 

@@ -20,14 +20,14 @@ use Rattle.futhark_core.specs.Private.Stages.{ExplainsFile, ExplainsTokens, IsLe
 use Rattle.futhark_core.specs.Row.{Outside, Streams, ActionRow, ProgramEnded, RunRow, FrontRow, status_for}
 
 -- why the front refused tokens, as a status tells it
-pub told_why : (tokens : List Token) (reason : Refused) → Explains tokens reason → ExplainsTokens tokens (why_of reason)
-told_why tokens (refused.Parse err) h = h
-told_why tokens (refused.NotBuilt at) h = h
-told_why tokens (refused.Names err) h = h
-told_why tokens (refused.Types err) h = h
-told_why tokens (refused.Misfit err) h = h
-told_why tokens (refused.Misused err) h = h
-told_why tokens refused.Memory h = tt
+pub told_why : (path : List ℕ) (tokens : List Token) (reason : Refused) → Explains path tokens reason → ExplainsTokens path tokens (why_of reason)
+told_why path tokens (refused.Parse err) h = h
+told_why path tokens (refused.NotBuilt at) h = h
+told_why path tokens (refused.Names err) h = h
+told_why path tokens (refused.Types err) h = h
+told_why path tokens (refused.Misfit err) h = h
+told_why path tokens (refused.Misused err) h = h
+told_why path tokens refused.Memory h = tt
 
 -- ---- the rows of an accepted source
 
@@ -91,11 +91,11 @@ module _ (words : List (List ℕ)) (asked : Command) (old new : Outside) (comman
 -- ---- from what was done with the tokens of a file to the row
 
 module _ (path : List ℕ) (old new : LoaderSeen) (tokens : List Token) (lexed : IsLexed path old new tokens) where
-  accepted_file : (source : Source) → AcceptedTokens tokens source → AcceptedFile path old new source
+  accepted_file : (source : Source) → AcceptedTokens path tokens source → AcceptedFile path old new source
   accepted_file source accepted = record { text = lexed.text; loaded = lexed.loaded; accepted = record { tokens = tokens; lexed = lexed.lexed; accepted = accepted } }
 
   -- why the file is not accepted, where its tokens are not
-  explained : (reason : Why) → ExplainsTokens tokens reason → ExplainsFile path old new reason
+  explained : (reason : Why) → ExplainsTokens path tokens reason → ExplainsFile path old new reason
   explained why.Memory h = lexed.loaded.same
   explained (why.Parse err) h = record { text = lexed.text; loaded = lexed.loaded; unaccepted = record { tokens = tokens; lexed = lexed.lexed; unaccepted = h } }
   explained (why.NotBuilt place) h = record { text = lexed.text; loaded = lexed.loaded; unaccepted = record { tokens = tokens; lexed = lexed.lexed; unaccepted = h } }

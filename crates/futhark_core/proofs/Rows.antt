@@ -25,7 +25,6 @@ use Rattle.value_text.specs.declared.reading.TextErr.{TextErr}
 use Rattle.value_text.specs.declared.reading.TextErr.TheVariants as text
 use Rattle.command_words.specs.CommandLine.{Command}
 use Rattle.futhark_core.specs.Acceptance.{Source}
-use Rattle.module_elab.specs.Elaborated.{program_of as flat_of}
 use Rattle.unfolded_runs.specs.Results.{Are_arguments, components_of, opened}
 use Rattle.futhark_status.specs.declared.status.Status.TheVariants.{Done, WriteFault}
 use Rattle.futhark_core.specs.Meaning.{Entered, Allows, Alone, told_of}
@@ -54,7 +53,7 @@ module _ (asked : Command) (source : Source) (e : Entered) (ready : IsReady aske
     -- where files lawfully allow an answer, it is the one that is allowed
     alone : (answer : Answer) (words : ℕ) → Allows source e asked.turns given true answer words → Alone source e asked.turns given answer
     alone answer words allows other lawful =
-        sym (lawful_files_have_one_answer source.files (flat_of source.flat) (told_of e) asked.turns e.number given other answer lawful.0 words true lawful.1 allows.0)
+        sym (lawful_files_have_one_answer source.files (told_of e) asked.turns e.number given other answer lawful.0 words true lawful.1 allows.0)
 
     by_kind : (kind : FailKind) (report : Report) (path : List ℕ) → report.kind ≡ kind → ComesTo asked source old.input new.input (Fails report) → path ≡ asked.file → new.out ≡ old.out → ProgramRow (kind_status kind report path) asked source old new
     by_kind fail.Division report path k c is out = ((λ t. absurd (let z : fail.Division ≡ fail.Turns = sym k ∙ t in cc)), record { path_is = is; comes = c; out = out })

@@ -21,6 +21,7 @@ use Rattle.elab_scopes.specs.Programs.{FlatProgram}
 use Rattle.unbuilt_tokens.specs.Unbuilt.{first_unbuilt}
 use Rattle.fut_aliases.specs.declared.refusals.Broken.{Broken}
 use Rattle.unique_programs.specs.Rules.{Breaks_none, First_broken}
+use Rattle.source_laws.proofs.Sources.{not_broken_too}
 use Rattle.fut_sizes.specs.Agreeing.{Refusal as Size_refusal}
 use Rattle.sized_programs.specs.Sizings.{Is_sized}
 use Rattle.sized_programs.specs.declared.misfit.Misfit.{Misfit}
@@ -30,7 +31,7 @@ use Rattle.typed_programs.specs.Ordered.{Some_order}
 use Rattle.sizing_laws.specs.Order.{In_order}
 use Rattle.typed_programs.specs.declared.typed.TypeErr.{TypeErr}
 use Rattle.typed_programs.specs.declared.typed.TypeErr.TheVariants as types
-use Rattle.front.specs.Acceptance.{IsParsed, Resolves, Sizable, Typable, definitions_of, named_file}
+use Rattle.front.specs.Acceptance.{file_alone, IsParsed, Resolves, Sizable, Typable, definitions_of, named_file}
 use Rattle.front.specs.declared.refusals.NameErr.{NameErr}
 use Rattle.front.specs.declared.refusals.NameErr.TheVariants as names
 use Rattle.front.proofs.Answering.{resolves_once}
@@ -152,15 +153,15 @@ flat_in other (Ok flat) = flat
 flat_in other (Err e) = other
 
 module _ (file : List ℕ) (program : Program) where
-  pub named_ok : (flat : FlatProgram) → Resolves program (Ok flat) → Settles (Named file program) (Ok flat)
+  pub named_ok : (flat : FlatProgram) → Resolves (file_alone file program) (Ok flat) → Settles (Named file program) (Ok flat)
   unfolding flat_in
-  named_ok flat is (Ok other) p = ap Ok (ap (flat_in other) (resolves_once program (Ok other) (Ok flat) p is))
-  named_ok flat is (Err status) p = let same = resolves_once program (Ok flat) (Err (refusal_of p.0)) is p.1 in absurd cc
+  named_ok flat is (Ok other) p = ap Ok (ap (flat_in other) (resolves_once (file_alone file program) (Ok other) (Ok flat) p is))
+  named_ok flat is (Err status) p = let same = resolves_once (file_alone file program) (Ok flat) (Err (refusal_of p.0)) is p.1 in absurd cc
 
-  pub named_err : (err : NameErr) → Resolves program (Err (refusal_of err)) → Settles (Named file program) (Err (status_for (why.Names err) file))
-  named_err err is (Ok flat) p = let same = resolves_once program (Ok flat) (Err (refusal_of err)) p is in absurd cc
+  pub named_err : (err : NameErr) → Resolves (file_alone file program) (Err (refusal_of err)) → Settles (Named file program) (Err (status_for (why.Names err) file))
+  named_err err is (Ok flat) p = let same = resolves_once (file_alone file program) (Ok flat) (Err (refusal_of err)) p is in absurd cc
   named_err err is (Err status) p =
-      ap Err (p.2 ∙ ap (λ (e : NameErr). status_for (why.Names e) file) (same_err p.0 err (resolves_once program (Err (refusal_of p.0)) (Err (refusal_of err)) p.1 is)))
+      ap Err (p.2 ∙ ap (λ (e : NameErr). status_for (why.Names e) file) (same_err p.0 err (resolves_once (file_alone file program) (Err (refusal_of p.0)) (Err (refusal_of err)) p.1 is)))
 
 -- ---- types
 
@@ -229,8 +230,8 @@ UniqueRefusal file status = (err : Misuse) × (status ≡ status_for (why.Unique
 module _ (file : List ℕ) (flat : FlatProgram) where
   pub unbroken_ok : Some_order (Breaks_none (definitions_of flat)) → Settles (Unbroken file flat) (Ok flat)
   unbroken_ok some (Ok same) p = ap Ok p.1
-  unbroken_ok some (Err status) p = let broken = p.1 some.0 some.1 some.2 None some.3 in let is = broken.1 in absurd cc
+  unbroken_ok some (Err status) p = absurd (not_broken_too (definitions_of flat) p.1.3.0 some.0 p.1.0 some.1 p.1.1 some.2 p.1.2 some.3 p.1.3.1)
 
   pub unbroken_err : (N : Numbering) → AreNames N → In_order N → (rule : Broken) → First_broken (definitions_of flat) (Some rule) N → Holds (Unbroken file flat) (EndsAs (UniqueRefusal file))
-  unbroken_err N are order rule first (Ok same) p = let none = p.0 N are order (Some rule) first in absurd cc
+  unbroken_err N are order rule first (Ok same) p = absurd (not_broken_too (definitions_of flat) rule p.0.0 N p.0.1 are p.0.2 order p.0.3 first)
   unbroken_err N are order rule first (Err status) p = (p.0, p.2)

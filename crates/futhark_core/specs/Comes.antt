@@ -20,14 +20,16 @@ use Rattle.fut_typing.specs.Names.{Names as Numbering, AreNames}
 use Rattle.fut_typing.specs.Program.{Defined}
 use Rattle.fut_typing.specs.Answers.{NoType, FunctionPlace, Ambiguous}
 use Rattle.elab_scopes.specs.Names as refusal
-use Rattle.elab_scopes.specs.Programs.{FlatProgram, resolve_program}
+use Rattle.elab_scopes.specs.Programs.{FlatProgram}
+use Rattle.elab_scopes.specs.Elaboration.{Elaborates}
 use Rattle.module_elab.specs.Elaborated.{program_of as flat_of}
 use Rattle.unbuilt_tokens.specs.Unbuilt.{first_unbuilt}
-use Rattle.front.specs.Acceptance.{Resolves, Typable, definitions_of, named_file}
+use Rattle.front.specs.Acceptance.{file_alone, Resolves, Typable, definitions_of, named_file}
 use Rattle.front.specs.Entries.{HasEntry, HasNoEntry}
 use Rattle.front.specs.declared.refusals.NameErr.{NameErr}
 use Rattle.front.specs.declared.refusals.NameErr.TheVariants as names
 use Rattle.typed_programs.specs.Mistyped.{Some_numbering}
+use Rattle.typed_programs.specs.Ordered.{Some_order}
 use Rattle.sizing_laws.specs.Order.{In_order}
 use Rattle.typed_programs.specs.declared.typed.TypeErr.{TypeErr}
 use Rattle.typed_programs.specs.declared.typed.TypeErr.TheVariants as types
@@ -36,7 +38,7 @@ use Rattle.fut_sizes.specs.Agreeing.{Answer as Sizing_answer, Refusal as Size_re
 use Rattle.sized_programs.specs.Sizings.{Is_sized}
 use Rattle.sized_programs.specs.declared.misfit.Misfit.{Misfit}
 use Rattle.fut_aliases.specs.declared.refusals.Broken.{Broken}
-use Rattle.unique_programs.specs.Rules.{First_broken}
+use Rattle.unique_programs.specs.Rules.{Breaks_none, First_broken}
 use Rattle.unique_programs.specs.declared.misuse.Misuse.{Misuse}
 use Rattle.command_words.specs.CommandLine.{Command, command_of}
 use Rattle.command_words.specs.declared.words.Action.{Action}
@@ -104,10 +106,10 @@ refusal_of (names.Unbound name at) = refusal.Unbound name at
 refusal_of (names.Twice name at) = refusal.Twice name at
 refusal_of (names.NoMember name at) = refusal.NoMember name at
 
--- behind the prelude the program's names are bound, or one is refused
+-- behind the prelude the file with this program comes to a flat program, or to a refusal of names
 abbrev pub Named : Name → Program → Stage FlatProgram
-Named file program (Ok flat) = Resolves program (Ok flat)
-Named file program (Err status) = (err : NameErr) × Resolves program (Err (refusal_of err)) × (status ≡ status_for (why.Names err) file)
+Named file program (Ok flat) = Resolves (file_alone file program) (Ok flat)
+Named file program (Err status) = (err : NameErr) × Resolves (file_alone file program) (Err (refusal_of err)) × (status ≡ status_for (why.Names err) file)
 
 -- this is what the definitions lack
 abbrev pub Lacks : TypeErr → Numbering → List Defined → Type 0
@@ -130,15 +132,14 @@ abbrev pub Sized : Name → FlatProgram → Stage FlatProgram
 Sized file flat (Ok same) = By_each_sizing (definitions_of flat) (λ answer. (sizes : ℕ → Size) × (answer ≡ Ok sizes)) × (same ≡ flat)
 Sized file flat (Err status) = (err : Misfit) × By_each_sizing (definitions_of flat) (λ answer. (refusal : Size_refusal) × (answer ≡ Err refusal)) × (status ≡ status_for (why.Sizes err) file)
 
--- this holds of the first rule of aliases and consumption that the definitions break, if they break one, by each typing of theirs in
--- the order of names
-abbrev pub By_each_typing : List Defined → (Option Broken → Type 0) → Type 0
-By_each_typing ds P = (N : Numbering) → AreNames N → In_order N → (first : Option Broken) → First_broken ds first N → P first
+-- by some typing in the order of names the definitions break a rule of aliases and consumption, and this one first
+abbrev pub Breaks_one : List Defined → Numbering → Type 0
+Breaks_one ds N = (rule : Broken) × First_broken ds (Some rule) N
 
--- by no typing the flat program breaks a rule of aliases and consumption, or by each one
+-- by its typings the flat program breaks no rule of aliases and consumption, or one
 abbrev pub Unbroken : Name → FlatProgram → Stage FlatProgram
-Unbroken file flat (Ok same) = By_each_typing (definitions_of flat) (λ first. first ≡ None) × (same ≡ flat)
-Unbroken file flat (Err status) = (err : Misuse) × By_each_typing (definitions_of flat) (λ first. (rule : Broken) × (first ≡ Some rule)) × (status ≡ status_for (why.Unique err) file)
+Unbroken file flat (Ok same) = Some_order (Breaks_none (definitions_of flat)) × (same ≡ flat)
+Unbroken file flat (Err status) = (err : Misuse) × Some_order (Breaks_one (definitions_of flat)) × (status ≡ status_for (why.Unique err) file)
 
 -- the file's text is accepted
 abbrev pub Accepted : Option (List (List ℕ × List ℕ)) → Name → Stage FlatProgram
@@ -172,9 +173,9 @@ pub data Ending : Type 0 where
 abbrev pub Of_entries : FlatProgram → Name → (Entered → Type 0) → Type 0
 Of_entries flat name P = (source : Source) → flat_of source.flat ≡ flat → (e : Entered) → IsEntered source name e → P e
 
--- and this of the files too that resolve to the flat program
+-- and this of the files too that come to the flat program
 abbrev pub Of_sources : FlatProgram → Name → (Source → Entered → Type 0) → Type 0
-Of_sources flat name P = (source : Source) → flat_of source.flat ≡ flat → resolve_program source.files ≡ Ok flat → (e : Entered) → IsEntered source name e → P source e
+Of_sources flat name P = (source : Source) → flat_of source.flat ≡ flat → Elaborates source.files (Ok flat) → (e : Entered) → IsEntered source name e → P source e
 
 -- a run begins at a definition of this name, or at none
 abbrev pub Entering : FlatProgram → Name → Stage FlatProgram
@@ -228,7 +229,7 @@ Tells (Fails report) status = (path : Name) × ((status ≡ Failure report path)
 pub record AllowedFor (asked : AskedRun) (answer : Answer) : Type 0 where
   pub source : Source
   pub flat : flat_of source.flat ≡ asked.flat
-  pub files : resolve_program source.files ≡ Ok asked.flat
+  pub files : Elaborates source.files (Ok asked.flat)
   pub entered : Entered
   pub is_entered : IsEntered source asked.name entered
   pub arguments : List Value

@@ -18,7 +18,6 @@ use Rattle.fut_meaning.specs.Flats.{FlatTop, flat_tops, named_terms}
 use Rattle.fut_value.specs.Data.{Datum}
 use Rattle.fut_meaning.specs.Answers.{Answer}
 use Rattle.elab_laws.specs.Answers.{Files_allow, Files_lawfully_allow}
-use Rattle.module_elab.specs.Elaborated.{program_of as flat_of}
 use Rattle.type_soundness.specs.Programs.{Definitions_told}
 use Rattle.sized_types.specs.Sizes.{Size}
 use Rattle.sized_programs.specs.Sizings.{Is_sized}
@@ -76,11 +75,11 @@ told_of e = record { integer_at = e.integer_at; sizes = Some e.sizing }
 -- for these arguments, with this budget of turns for each `while`, making so many words; tight where the trees of its reductions
 -- have few neutral leaves
 abbrev pub Allows : Source → Entered → ℕ → List Datum → (tight : Bool) → Answer → (words : ℕ) → Type 0
-Allows source e turns arguments tight answer words = Files_allow source.files (flat_of source.flat) (told_of e) turns e.number arguments tight answer words × Answer_is_of e.tuple e.results answer
+Allows source e turns arguments tight answer words = Files_allow source.files (told_of e) turns e.number arguments tight answer words × Answer_is_of e.tuple e.results answer
 
 -- with lawful operators alone, and no place that a scatter names twice
 abbrev pub Lawfully_allows : Source → Entered → ℕ → List Datum → Answer → Type 0
-Lawfully_allows source e turns arguments answer = (words : ℕ) × Files_lawfully_allow source.files (flat_of source.flat) (told_of e) turns e.number arguments answer words
+Lawfully_allows source e turns arguments answer = (words : ℕ) × Files_lawfully_allow source.files (told_of e) turns e.number arguments answer words
 
 -- where the files lawfully allow an answer, it is this one
 abbrev pub Alone : Source → Entered → ℕ → List Datum → Answer → Type 0

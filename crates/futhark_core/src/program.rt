@@ -9,7 +9,7 @@ ghost use Rattle.fut_typing.specs.Program.{program_of as typing_of};
 ghost use Rattle.sized_programs.specs.Sizings.{Has_sizing};
 ghost use Rattle.sizing_tables.specs.Claims.{Is_resolved};
 ghost use Rattle.type_infer.specs.Inferring.{Told_by};
-ghost use Rattle.elab_scopes.specs.Programs.{resolve_program};
+ghost use Rattle.elab_scopes.specs.Elaboration.{Elaborates};
 ghost use Rattle.futhark_core.specs.Acceptance.{Source as TheSource};
 ghost use Rattle.futhark_core.specs.Meaning.{Entered};
 ghost use Rattle.futhark_core.specs.Private.Finding.{Is_found};
@@ -112,7 +112,7 @@ fn run_entered<'a, S: Source, K: Sink>(
     requires sized { Told_by (Has_sizing (typing_of program.now.accepted.now.flat) program.now.sizing.now) program.now.accepted.now.inference }
     requires resolved { Is_resolved program.now.accepted.now.flat }
     requires found { Is_found program.now.accepted.now program.now.sizing.now command.now.entry.now entry.now }
-    ensures { (source : TheSource) → source.flat ≡ program.now.accepted.now.flat → resolve_program source.files ≡ Ok (flat_of source.flat) → ProgramRow result (command_in command.now) source
+    ensures { (source : TheSource) → source.flat ≡ program.now.accepted.now.flat → Elaborates source.files (Ok (flat_of source.flat)) → ProgramRow result (command_in command.now) source
         (record { input = S.seen input.old; out = K.seen out.old })
         (record { input = S.seen input.new; out = K.seen out.new }) }
 {
@@ -147,7 +147,7 @@ fn run_program<'a, S: Source, K: Sink>(
     requires known { Is_known program.now.accepted.now }
     requires sized { Told_by (Has_sizing (typing_of program.now.accepted.now.flat) program.now.sizing.now) program.now.accepted.now.inference }
     requires resolved { Is_resolved program.now.accepted.now.flat }
-    ensures { (source : TheSource) → source.flat ≡ program.now.accepted.now.flat → resolve_program source.files ≡ Ok (flat_of source.flat) → ProgramRow result (command_in command.now) source
+    ensures { (source : TheSource) → source.flat ≡ program.now.accepted.now.flat → Elaborates source.files (Ok (flat_of source.flat)) → ProgramRow result (command_in command.now) source
         (record { input = S.seen input.old; out = K.seen out.old })
         (record { input = S.seen input.new; out = K.seen out.new }) }
 {
@@ -185,7 +185,7 @@ pub fn act<'a, S: Source, K: Sink>(
     requires known { Is_known program.now.accepted.now }
     requires sized { Told_by (Has_sizing (typing_of program.now.accepted.now.flat) program.now.sizing.now) program.now.accepted.now.inference }
     requires resolved { Is_resolved program.now.accepted.now.flat }
-    ensures { (source : TheSource) → source.flat ≡ program.now.accepted.now.flat → resolve_program source.files ≡ Ok (flat_of source.flat) → ActionRow command.now.action result (command_in command.now) source
+    ensures { (source : TheSource) → source.flat ≡ program.now.accepted.now.flat → Elaborates source.files (Ok (flat_of source.flat)) → ActionRow command.now.action result (command_in command.now) source
         (record { input = S.seen input.old; out = K.seen out.old })
         (record { input = S.seen input.new; out = K.seen out.new }) }
 {

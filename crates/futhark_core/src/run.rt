@@ -41,7 +41,7 @@ fn run_tokens<S: Source, K: Sink>(
     };
     let bump = Bump::new(alloc);
     bump.set_allocation_limit(Some(MOST_BYTES));
-    match accept(alloc, &bump, &prelude, tokens) {
+    match accept(alloc, &bump, &prelude, command.file, tokens) {
         Ok(program) => act(alloc, &bump, command, &program, path, input, out),
         Err(refused) => status_of(why_of(refused), path),
     }

@@ -1,5 +1,5 @@
--- What `elaborate` answers: the flat program of a set of files, or the first refusal in order of text.
-use Rattle.std.specs.Prelude.{◌≡◌, map, Result, Err}
+-- What `elaborate` answers: the flat program of files, or the first refusal in order of text.
+use Rattle.std.specs.Prelude.{map, Result, Err}
 use Rattle.fut_flat.specs.declared.program.Definition.{Definition}
 use Rattle.fut_flat.specs.declared.program.Flat.{Flat}
 use Rattle.fut_flat.specs.Erased.{parameters, term_of, texts}
@@ -28,12 +28,12 @@ error_of (stop.Refused (held.TooManyApplications at)) = err.TooManyApplications 
 error_of (stop.Refused (held.NotYet at)) = err.NotYet at
 error_of stop.Memory = err.Memory
 
--- the refusal that an error tells; that memory ran out tells nothing of the files
-abbrev pub Tells : Result FlatProgram Refusal → ModErr → Type 0
-Tells r (err.Unbound x at) = r ≡ Err (Unbound x.now at)
-Tells r (err.Twice x at) = r ≡ Err (Twice x.now at)
-Tells r (err.NoMember x at) = r ≡ Err (NoMember x.now at)
-Tells r (err.SealMissing x at) = r ≡ Err (SealMissing x.now at)
-Tells r (err.TooManyApplications at) = r ≡ Err (TooManyApplications at)
-Tells r (err.NotYet at) = r ≡ Err (NotYet at)
-Tells r err.Memory = Unit {0}
+-- what an error tells of files that come to an answer; that memory ran out tells nothing of them
+abbrev pub Tells : (Result FlatProgram Refusal → Type 0) → ModErr → Type 0
+Tells Come_to (err.Unbound x at) = Come_to (Err (Unbound x.now at))
+Tells Come_to (err.Twice x at) = Come_to (Err (Twice x.now at))
+Tells Come_to (err.NoMember x at) = Come_to (Err (NoMember x.now at))
+Tells Come_to (err.SealMissing x at) = Come_to (Err (SealMissing x.now at))
+Tells Come_to (err.TooManyApplications at) = Come_to (Err (TooManyApplications at))
+Tells Come_to (err.NotYet at) = Come_to (Err (NotYet at))
+Tells Come_to err.Memory = Unit {0}

@@ -1,2 +1,2 @@
 pub mod Elaborated
-pub mod Walks
+pub mod Closing

@@ -1,29 +1,51 @@
 // The call.
 ghost use Rattle.std.specs.Prelude.{◌≡◌, IfErr, IfOk, Ok};
-ghost use Rattle.fut_tree.specs.Names.{all};
+ghost use Rattle.elab_scopes.specs.Elaboration.{Elaborates};
+ghost use Rattle.module_elab.specs.Closing.{Closes};
 ghost use Rattle.module_elab.specs.Elaborated.{Tells, program_of};
-ghost use Rattle.elab_scopes.specs.Programs.{resolve_program};
+ghost use Rattle.module_state.specs.Written.{files_of};
 
-use crate::files::whole_program;
 use crate::refused::ModErr;
-use crate::source_set::SourceSet;
 use bumpalo::Bump;
+use bumpalo::collections::into_bump_slice;
 use fut_flat::Flat;
+use fut_scalar::NoMemory;
+use module_state::{Declaring, SourceFile, Sources};
+use module_walk::declared_files;
 use std::alloc::Global;
 
-/// The flat program of a set of files, held by the arena. Of refusals it answers the first one in order of text, the files
-/// being taken in their order.
+/// How deep modules are looked at in one another: deeper than files nest them, and no deeper than the stack goes.
+const MODULE_DEPTH: u32 = 4096;
+
+/// The flat program of all that was declared.
+fn closed<'a>(bump: &'a Bump, declared: Declaring<'a>) -> Result<Flat<'a>, NoMemory>
+    ensures { IfOk result (Closes declared.entry) }
+{
+    match declared.names.texts(bump) {
+        Ok(names) => Ok(Flat {
+            definitions: into_bump_slice(declared.definitions),
+            names,
+        }),
+        Err(_) => Err(NoMemory),
+    }
+}
+
+/// The flat program of files, held by the arena, or the first refusal in order of text. File 0 is the prelude, whose names all
+/// files see; file 1 is run, and the others stand behind it, in the order in which they are loaded.
 #[tactic(auto, using(crate::proofs::Whole::telling))]
 pub fn elaborate<'a>(
     alloc: Global,
     bump: &'a Bump,
-    set: &SourceSet<'a>,
+    files: &'a [SourceFile<'a>],
 ) -> Result<Flat<'a>, ModErr<'a>>
-    ensures program { IfOk result (λ flat. resolve_program (all set.now.programs.now) ≡ Ok (program_of flat)) }
-    ensures refusal { IfErr result (λ e. Tells (resolve_program (all set.now.programs.now)) e) }
+    ensures program { IfOk result (λ flat. Elaborates (files_of files.now) (Ok (program_of flat))) }
+    ensures refusal { IfErr result (Tells (Elaborates (files_of files.now))) }
 {
-    match whole_program(alloc, bump, set.programs) {
-        Ok(flat) => Ok(flat),
+    match declared_files(alloc, Sources { files, bump }, MODULE_DEPTH) {
+        Ok(declared) => match closed(bump, declared.state) {
+            Ok(flat) => Ok(flat),
+            Err(_) => Err(ModErr::Memory),
+        },
         Err(stop) => Err(ModErr::of(stop)),
     }
 }

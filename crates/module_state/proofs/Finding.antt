@@ -36,7 +36,7 @@ module _ (x : Text) (xs : Path) (h : Here) (at : Place) (d : Declaring) (r : Res
   path_refused : (e : HeldRefusal) → r ≡ Err e → Does module_ref_of (path_module h at (x ∷ xs)) d d (Err (stop.Refused e))
   path_refused e err = refuses (λ s st. asked_of s st ∙ ap (λ q. from (viewed module_ref_of q) s) err)
 
-path_split : (ps : List (Bor Text)) (b : Bor Text) → 1 ≤ length ps → names ps ≡ (slice_index_or ps 0 b).now ∷ names (take (length ps - 1) (drop 1 ps))
+pub path_split : (ps : List (Bor Text)) (b : Bor Text) → 1 ≤ length ps → names ps ≡ (slice_index_or ps 0 b).now ∷ names (take (length ps - 1) (drop 1 ps))
 path_split [] b le = absurd (omega (arith, le))
 path_split (p ∷ ps) b le = ap (λ l. p.now ∷ names l) (sym (take_all (length (p ∷ ps) - 1) ps (omega arith)))
 

@@ -4,11 +4,12 @@ use Rattle.fut_scalar.specs.declared.place.Place.{Place}
 use Rattle.fut_ast.specs.Sorts.{Text, Path}
 use Rattle.fut_ast.specs.declared.module.ModExp.{ModExp, out-ModExp}
 use Rattle.fut_ast.specs.declared.module.ModForm.{out-ModForm}
-use Rattle.fut_ast.specs.declared.module.ModType.{ModType}
+use Rattle.fut_ast.specs.declared.module.ModType.{ModType, out-ModType}
+use Rattle.fut_ast.specs.declared.module.ModTypeForm.{out-ModTypeForm}
 use Rattle.fut_ast.specs.declared.module.Param.{Param}
 use Rattle.elab_scopes.specs.Names.{Unbound}
 use Rattle.elab_scopes.specs.Scopes.{Module_ref, made_module, scalar_module, Contents, members, contents_at, module_at, signature_at}
-use Rattle.elab_scopes.specs.Declarations.{Block, Here, Signature, Step, called, contents_of, curried, from, opened, scalar_members, with_signature}
+use Rattle.elab_scopes.specs.Declarations.{Block, Here, Signature, Step, called, contents_of, curried, from, opened, scalar_members, type_called, with_signature}
 
 -- one more module type, by its number
 abbrev pub new_signature : Signature → Step ℕ
@@ -31,6 +32,10 @@ named_signature h at p s = from (signature_at (record { names = h.names; modules
 -- how what is applied or opened is called
 abbrev pub called_of : ModExp → Text
 called_of m = called (out-ModForm (out-ModExp m).form)
+
+-- and what is included
+abbrev pub type_called_of : ModType → Text
+type_called_of t = type_called (out-ModTypeForm (out-ModType t).form)
 
 -- what the opening of a module brings
 abbrev pub open_step : Bool → ModExp → Module_ref → Block → Step Block

@@ -18,7 +18,7 @@ mod written;
 pub use again::{is_module_again, is_signature_again, is_type_again, is_value_again};
 pub use blocks::{brought, member_brought, more_members};
 pub use here::{in_body, looking, sees, within};
-pub use naming::called;
+pub use naming::{called, type_called};
 pub use opening::{contents_of, opened, scalar_members};
 pub use parameters::curried;
 pub use paths::{functor_at, functor_in, met_as, path_module, signature_named, signature_numbered};

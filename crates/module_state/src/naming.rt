@@ -1,13 +1,13 @@
-// How a module is called that is refused.
+// How a module or a module type is called that is refused.
 ghost use Rattle.std.specs.Prelude.{◌≡◌, IfErr, IfOk};
 ghost use Rattle.fut_tree.specs.Names.{names};
 ghost use Rattle.elab_scopes.specs.Declarations.{joined};
 ghost use Rattle.elab_scopes.specs.declared.refusal.Stop.TheVariants as stop;
-ghost use Rattle.module_state.specs.Steps.{called_of};
+ghost use Rattle.module_state.specs.Steps.{called_of, type_called_of};
 
 use bumpalo::Bump;
 use elab_scopes::Stop;
-use fut_tree::{ModExp, ModForm};
+use fut_tree::{ModExp, ModForm, ModType, ModTypeForm};
 
 /// The text of a path: its names with dots between them.
 #[tactic(auto, using(crate::proofs::Namings::texts))]
@@ -50,5 +50,21 @@ pub fn called<'a>(exp: &'a ModExp<'a>, bump: &'a Bump) -> Result<&'a str, Stop<'
         ModForm::Import(_) => Ok("module"),
         ModForm::Lambda(_, _, _, _) => Ok("module"),
         ModForm::Seal(_, _) => Ok("module"),
+    }
+}
+
+/// How a module type is called that is refused: by its path, or else as a module type.
+pub fn type_called<'a>(ty: &'a ModType<'a>, bump: &'a Bump) -> Result<&'a str, Stop<'a>>
+    ensures ok { IfOk result (λ text. text.now ≡ type_called_of ty.now) }
+    ensures err { IfErr result (λ e. e ≡ stop.Memory) }
+{
+    match ty.form {
+        ModTypeForm::Path(path) => match path {
+            [] => Ok("module type"),
+            [first, rest @ ..] => joined(*first, rest, bump),
+        },
+        ModTypeForm::Specs(_) => Ok("module type"),
+        ModTypeForm::With(_, _) => Ok("module type"),
+        ModTypeForm::Arrow(_, _, _) => Ok("module type"),
     }
 }

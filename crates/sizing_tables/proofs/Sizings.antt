@@ -11,11 +11,12 @@ use Rattle.fut_typing.specs.Names.{Names}
 use Rattle.fut_typing.specs.Program.{defined, program_of}
 use Rattle.elab_laws.specs.Binders.{definition_binders}
 use Rattle.elab_laws.specs.OnceClaims.{defined_of, definitions_of}
-use Rattle.elab_laws.specs.Used.{Definitions_bound}
-use Rattle.elab_laws.proofs.OncePrograms.{each_is_bound_once}
+use Rattle.elab_laws.specs.Used.{Definitions_bound, Definitions_are_no_sizes}
+use Rattle.elab_laws.proofs.Programs.{each_is_bound_once}
 use Rattle.elab_laws.proofs.Times.{times, once}
 use Rattle.elab_laws.proofs.Uses.{uses_are_told}
 use Rattle.module_elab.specs.Elaborated.{definition_of, program_of as flat_of}
+use Rattle.type_soundness.specs.Formed.{Definitions_apart}
 use Rattle.sizing_tables.specs.Bound.{is_among, program_names, program_sizes, size_numbers, sizes_of}
 use Rattle.sizing_tables.specs.Claims.{Is_resolved, SizingIsThere, SizingIsTold}
 use Rattle.sizing_tables.specs.Told.{label_texts, sizing_of}
@@ -100,10 +101,14 @@ module _ (Z : Sizing) where
         all_definitions_bound ds (size_right Z.is_size (size_numbers e.parameters ++ sizes_of e.value) (program_sizes (map defined ds)) s),
       )
 
+are_no_sizes : (S : ℕ → Bool) (ds : List Definition) → Definitions_apart S (map defined ds) → Definitions_are_no_sizes S (map definition_of ds)
+are_no_sizes S [] a = tt
+are_no_sizes S (d ∷ ds) a = (a.0.1, are_no_sizes S ds a.2)
+
 pub sizing_is_told : SizingIsTold
 sizing_is_told flat r N sizes Z is =
     let each = all_among Z.is_size (program_sizes (program_of flat)) (λ k a. is.are_sizes k ∙ a) in
     let other = others Z.is_size (program_names (program_of flat)) (λ b s. is.are_sizes b ∙ not_among b (program_sizes (program_of flat)) (let f = few flat r b in omega (arith, f, s))) in (
-      uses_are_told r.0 (flat_of flat) r.1 Z (all_definitions_bound Z flat.definitions.now each) is.used,
+      uses_are_told r.0 (flat_of flat) r.1 Z (all_definitions_bound Z flat.definitions.now each) (are_no_sizes Z.is_size flat.definitions.now (definitions_apart Z.is_size (program_of flat) each other)) is.used,
       definitions_apart Z.is_size (program_of flat) each other,
     )

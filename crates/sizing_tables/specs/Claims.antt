@@ -1,21 +1,21 @@
 -- What is proved of the sizing of a program that elaboration makes.
-use Rattle.std.specs.Prelude.{◌≡◌, ℕ, List, Some, Ok}
-use Rattle.fut_ast.specs.declared.module.Program.{Program}
+use Rattle.std.specs.Prelude.{ℕ, List, Some, Ok}
 use Rattle.fut_flat.specs.declared.program.Flat.{Flat}
 use Rattle.fut_meaning.specs.Found.{Sizing}
 use Rattle.fut_meaning.specs.Uses.{is_size_in}
 use Rattle.fut_typing.specs.Names.{Names, AreNames}
 use Rattle.fut_typing.specs.Program.{program_of}
 use Rattle.elab_laws.specs.Sized.{Sizes_are_told}
-use Rattle.elab_scopes.specs.Programs.{resolve_program}
+use Rattle.elab_scopes.specs.Elaboration.{Elaborates}
+use Rattle.elab_scopes.specs.Imports.{Source_file}
 use Rattle.module_elab.specs.Elaborated.{program_of as flat_of}
 use Rattle.sized_types.specs.Sizes.{Size}
 use Rattle.type_soundness.specs.Formed.{Definitions_apart}
 use Rattle.sizing_tables.specs.Told.{Is_sizing_of, sizing_of}
 
--- some files resolve to the flat program
+-- some files come to the flat program
 abbrev pub Is_resolved : Flat → Type 0
-Is_resolved flat = (ps : List Program) × (resolve_program ps ≡ Ok (flat_of flat))
+Is_resolved flat = (files : List Source_file) × Elaborates files (Ok (flat_of flat))
 
 -- it has a sizing, whatever sized types its nodes have
 abbrev pub SizingIsThere : Type 0

@@ -7,8 +7,9 @@ use bumpalo::Bump;
 use fut_lexer::{Token, lex};
 use fut_parser::parse;
 use fut_scalar::Place;
-use fut_tree::{Held, Program};
-use module_elab::{ModErr, PRELUDE, PRELUDE_PATH, SourceSet, elaborate};
+use fut_tree::Program;
+use module_elab::{ModErr, PRELUDE, PRELUDE_PATH, elaborate};
+use module_state::SourceFile;
 use std::alloc::Global;
 use test_shown::{Shown, show_flat, show_types};
 
@@ -68,14 +69,23 @@ impl Elaborated {
         let Some(program) = tree(bump, 1, second) else {
             return shown.push("! no tree");
         };
-        match source_set(bump, prelude, program) {
-            Some(set) => self.show_elaborated(bump, &set, shown),
-            None => shown.push("! memory"),
+        match bump.try_alloc_slice_copy(&[
+            SourceFile {
+                path: PRELUDE_PATH,
+                program: prelude,
+            },
+            SourceFile {
+                path: "text",
+                program,
+            },
+        ]) {
+            Ok(files) => self.show_elaborated(bump, files, shown),
+            Err(_) => shown.push("! memory"),
         }
     }
 
-    fn show_elaborated<'a>(&self, bump: &'a Bump, set: &SourceSet<'a>, shown: &mut Shown) {
-        match elaborate(self.alloc, bump, set) {
+    fn show_elaborated<'a>(&self, bump: &'a Bump, files: &'a [SourceFile<'a>], shown: &mut Shown) {
+        match elaborate(self.alloc, bump, files) {
             Ok(flat) if self.shows_types => show_types(self.alloc, &flat, shown),
             Ok(flat) => {
                 shown.push("=");
@@ -110,24 +120,6 @@ fn tree<'a>(bump: &'a Bump, file: u32, tokens: &'a [Token]) -> Option<&'a Progra
             Ok(held) => Some(held),
             Err(_) => None,
         },
-        Err(_) => None,
-    }
-}
-
-/// The paths of the files.
-const PATHS: [&str; 2] = [PRELUDE_PATH, "text"];
-
-/// The files of a set, held by the arena.
-fn source_set<'a>(
-    bump: &'a Bump,
-    prelude: &'a Program<'a>,
-    program: &'a Program<'a>,
-) -> Option<SourceSet<'a>> {
-    match bump.try_alloc_slice_copy(&[Held { at: prelude }, Held { at: program }]) {
-        Ok(programs) => Some(SourceSet {
-            names: &PATHS,
-            programs,
-        }),
         Err(_) => None,
     }
 }

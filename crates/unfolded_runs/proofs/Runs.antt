@@ -4,7 +4,6 @@ use Rattle.fut_scalar.specs.declared.place.BindId.{BindId}
 use Rattle.fut_scalar.specs.declared.report.Report.{Report}
 use Rattle.fut_scalar.specs.declared.scalar.IntType.{IntType}
 use Rattle.fut_scalar.specs.declared.sizes.DataType.{DataType}
-use Rattle.fut_ast.specs.declared.module.Program.{Program as SourceProgram}
 use Rattle.fut_flat.specs.declared.program.Definition.{Definition}
 use Rattle.fut_flat.specs.declared.program.Flat.{Flat}
 use Rattle.fut_flat.specs.Erased.{term_of}
@@ -24,7 +23,8 @@ use Rattle.fut_blocks.specs.Meaning.{Component}
 use Rattle.fut_blocks.specs.Programs.{Program_means, AreOf}
 use Rattle.module_elab.specs.Elaborated.{definition_of, program_of}
 use Rattle.std.specs.Prelude.{Ok}
-use Rattle.elab_scopes.specs.Programs.{resolve_program}
+use Rattle.elab_scopes.specs.Elaboration.{Elaborates}
+use Rattle.elab_scopes.specs.Imports.{Source_file}
 use Rattle.elab_laws.specs.Answers.{Files_allow}
 use Rattle.elab_laws.specs.Sourced.{named_values}
 use Rattle.elab_laws.specs.Sized.{Sizes_are_told}
@@ -91,7 +91,7 @@ module _ {flat : Flat} {inference : Inference} {integers : List IntType} {Z : Si
   abbrev Named_means : Out FlatValue → ℕ → Type 0
   Named_means = Rattle.fut_meaning.specs.Programs.Program_means (flat_names (told_with (integer_at integers) Z)) (plain tight) budget (flat_tops 0 (named_values (program_of flat).definitions)) entry.0 (all_values arguments)
 
-  -- the same program, as its files are resolved to it
+  -- the same program, as its files come to it
   to_named : (o : Out FlatValue) (f : ℕ) → Flat_allows o f → Named_means o f
   to_named o f x =
       subst (λ z. Rattle.fut_meaning.specs.Programs.Program_means (flat_names (told_with (integer_at integers) Z)) (plain tight) budget (flat_tops 0 z) entry.0 (all_values arguments) o f) (sym (named_are flat.definitions.now))
@@ -102,14 +102,14 @@ module _ {flat : Flat} {inference : Inference} {integers : List IntType} {Z : Si
       subst (λ z. Flat_means (told_with (integer_at integers) Z) (plain tight) budget (named_terms flat) entry z o f) (sym (listed_values arguments))
       (subst (λ z. Rattle.fut_meaning.specs.Programs.Program_means (flat_names (told_with (integer_at integers) Z)) (plain tight) budget (flat_tops 0 z) entry.0 (all_values arguments) o f) (named_are flat.definitions.now) m)
 
-  module _ (ps : List SourceProgram) (resolved : resolve_program ps ≡ Ok (program_of flat)) where
-    result_of : (d : Datum) (f : ℕ) → Flat_allows (Val (as_value d)) f → Files_allow ps (program_of flat) (told_with (integer_at integers) Z) budget entry.0 arguments tight (Gives d) f
-    result_of d f x = (same_results ps (program_of flat) resolved (told_with (integer_at integers) Z) sizes_told tight budget entry.0 arguments d f).0 (to_named (Val (as_value d)) f x)
+  module _ (files : List Source_file) (resolved : Elaborates files (Ok (program_of flat))) where
+    result_of : (d : Datum) (f : ℕ) → Flat_allows (Val (as_value d)) f → Files_allow files (told_with (integer_at integers) Z) budget entry.0 arguments tight (Gives d) f
+    result_of d f x = (same_results files (program_of flat) resolved (told_with (integer_at integers) Z) sizes_told tight budget entry.0 arguments d f).0 (to_named (Val (as_value d)) f x)
 
-    report_of : (k : Report) (f : ℕ) → Flat_allows (Fail k) f → Files_allow ps (program_of flat) (told_with (integer_at integers) Z) budget entry.0 arguments tight (Fails k) f
-    report_of k f x = (same_reports ps (program_of flat) resolved (told_with (integer_at integers) Z) sizes_told tight budget entry.0 arguments k f).0 (to_named (Fail k) f x)
+    report_of : (k : Report) (f : ℕ) → Flat_allows (Fail k) f → Files_allow files (told_with (integer_at integers) Z) budget entry.0 arguments tight (Fails k) f
+    report_of k f x = (same_reports files (program_of flat) resolved (told_with (integer_at integers) Z) sizes_told tight budget entry.0 arguments k f).0 (to_named (Fail k) f x)
 
-    answer_of : (o : Out FlatValue) (f : ℕ) → Flat_allows o f → (answer : Answer) × (words : ℕ) × Answer_is_of tuple results answer × Files_allow ps (program_of flat) (told_with (integer_at integers) Z) budget entry.0 arguments tight answer words
+    answer_of : (o : Out FlatValue) (f : ℕ) → Flat_allows o f → (answer : Answer) × (words : ℕ) × Answer_is_of tuple results answer × Files_allow files (told_with (integer_at integers) Z) budget entry.0 arguments tight answer words
     answer_of (Val v) f x =
         let fit = safe (Val v) f x in
         let d = data_of N (told_with (integer_at integers) Z) (plain tight) budget false fit.0 v tuple results used.result used.results_are fit.1 in
@@ -117,7 +117,7 @@ module _ {flat : Flat} {inference : Inference} {integers : List IntType} {Z : Si
     answer_of (Fail k) f x = (Fails k, f, tt, report_of k f x)
     answer_of Wrong f x = absurd (safe Wrong f x)
 
-    pub some_allowed : (answer : Answer) × (words : ℕ) × Answer_is_of tuple results answer × Files_allow ps (program_of flat) (told_with (integer_at integers) Z) budget entry.0 arguments tight answer words
+    pub some_allowed : (answer : Answer) × (words : ℕ) × Answer_is_of tuple results answer × Files_allow files (told_with (integer_at integers) Z) budget entry.0 arguments tight answer words
     some_allowed = answer_of some.0 some.1 some.2
 
 -- ---- runs
@@ -135,7 +135,7 @@ module _ {flat : Flat} {inference : Inference} {integers : List IntType} {Z : Si
       same : {o : Out FlatValue} → Same_out (Is_value h) Wrong o → HasOut (Result_fits (N r.typed r.resolved r.told r.usable tight budget arguments of) (told_with (integer_at integers) Z) (plain tight) budget false (used r.typed r.resolved r.told r.usable tight budget arguments of).result) o → ⊥
       same same_wrong k = k
 
-  module _ (ps : List SourceProgram) (resolved : resolve_program ps ≡ Ok (program_of flat)) where
+  module _ (files : List Source_file) (resolved : Elaborates files (Ok (program_of flat))) where
     -- a value is data, whose components are those that it is laid in, opened
     laid_data : (v : FlatValue) (f : ℕ) → Allows (Val v) f → Is_data (N r.typed r.resolved r.told r.usable tight budget arguments of) (told_with (integer_at integers) Z) (plain tight) budget false tuple results v
     laid_data v f x =
@@ -143,19 +143,19 @@ module _ {flat : Flat} {inference : Inference} {integers : List IntType} {Z : Si
         let u = used r.typed r.resolved r.told r.usable tight budget arguments of in
         data_of (N r.typed r.resolved r.told r.usable tight budget arguments of) (told_with (integer_at integers) Z) (plain tight) budget false fit.0 v tuple results u.result u.results_are fit.1
 
-    gives_so : (vs : List Component) (f : ℕ) → Right (Is_value h) Allows (Val vs) f → (result : Datum) × (opened tuple vs ≡ components_of tuple result) × AreOf results (components_of tuple result) × Files_allow ps (program_of flat) (told_with (integer_at integers) Z) budget entry.0 arguments tight (Gives result) f
+    gives_so : (vs : List Component) (f : ℕ) → Right (Is_value h) Allows (Val vs) f → (result : Datum) × (opened tuple vs ≡ components_of tuple result) × AreOf results (components_of tuple result) × Files_allow files (told_with (integer_at integers) Z) budget entry.0 arguments tight (Gives result) f
     gives_so vs f (right o x s) = same s x
       where
-        same : {o : Out FlatValue} → Same_out (Is_value h) (Val vs) o → Allows o f → (result : Datum) × (opened tuple vs ≡ components_of tuple result) × AreOf results (components_of tuple result) × Files_allow ps (program_of flat) (told_with (integer_at integers) Z) budget entry.0 arguments tight (Gives result) f
+        same : {o : Out FlatValue} → Same_out (Is_value h) (Val vs) o → Allows o f → (result : Datum) × (opened tuple vs ≡ components_of tuple result) × AreOf results (components_of tuple result) × Files_allow files (told_with (integer_at integers) Z) budget entry.0 arguments tight (Gives result) f
         same (same_value {a' = v} s) x =
             let d = laid_data v f x in
-            (d.result, result_opened tuple results d.result d.are_of d.value s, d.are_of, result_of r.typed r.resolved r.told r.usable tight budget arguments of ps resolved d.result f (subst (λ z. Allows (Val z) f) d.value x))
+            (d.result, result_opened tuple results d.result d.are_of d.value s, d.are_of, result_of r.typed r.resolved r.told r.usable tight budget arguments of files resolved d.result f (subst (λ z. Allows (Val z) f) d.value x))
 
-    fails_so : (k : Report) (f : ℕ) → Right (Is_value h) Allows (Fail k) f → Files_allow ps (program_of flat) (told_with (integer_at integers) Z) budget entry.0 arguments tight (Fails k) f
+    fails_so : (k : Report) (f : ℕ) → Right (Is_value h) Allows (Fail k) f → Files_allow files (told_with (integer_at integers) Z) budget entry.0 arguments tight (Fails k) f
     fails_so k f (right o x s) = same s x
       where
-        same : {o : Out FlatValue} → Same_out (Is_value h) (Fail k) o → Allows o f → Files_allow ps (program_of flat) (told_with (integer_at integers) Z) budget entry.0 arguments tight (Fails k) f
-        same same_report x = report_of r.typed r.resolved r.told r.usable tight budget arguments of ps resolved k f x
+        same : {o : Out FlatValue} → Same_out (Is_value h) (Fail k) o → Allows o f → Files_allow files (told_with (integer_at integers) Z) budget entry.0 arguments tight (Fails k) f
+        same same_report x = report_of r.typed r.resolved r.told r.usable tight budget arguments of files resolved k f x
 
     -- ---- what the files allow, the blocks allow
 
@@ -176,19 +176,19 @@ module _ {flat : Flat} {inference : Inference} {integers : List IntType} {Z : Si
     allowed : (o : Out FlatValue) (f : ℕ) → Named_means r.typed r.resolved r.told r.usable tight budget arguments of o f → Left (Is_value h) (Program_means tight budget p arguments) o f
     allowed o f m = loses_no_outcome tight (told_with (integer_at integers) Z) budget (named_terms flat) entry hs h p r.unfolds (as_values (datums arguments)) arguments split o f (from_named r.typed r.resolved r.told r.usable tight budget arguments of o f m)
 
-    result_comes : (d : Datum) (f : ℕ) → Files_allow ps (program_of flat) (told_with (integer_at integers) Z) budget entry.0 arguments tight (Gives d) f → (vs : List Datum) × (opened tuple vs ≡ components_of tuple d) × Program_means tight budget p arguments (Val vs) f
+    result_comes : (d : Datum) (f : ℕ) → Files_allow files (told_with (integer_at integers) Z) budget entry.0 arguments tight (Gives d) f → (vs : List Datum) × (opened tuple vs ≡ components_of tuple d) × Program_means tight budget p arguments (Val vs) f
     result_comes d f a =
-        let m = (same_results ps (program_of flat) resolved (told_with (integer_at integers) Z) (sizes_told r.typed r.resolved r.told r.usable tight budget arguments of) tight budget entry.0 arguments d f).1 a in
+        let m = (same_results files (program_of flat) resolved (told_with (integer_at integers) Z) (sizes_told r.typed r.resolved r.told r.usable tight budget arguments of) tight budget entry.0 arguments d f).1 a in
         came d f (from_named r.typed r.resolved r.told r.usable tight budget arguments of (Val (as_value d)) f m) (allowed (Val (as_value d)) f m)
 
-    report_comes : (k : Report) (f : ℕ) → Files_allow ps (program_of flat) (told_with (integer_at integers) Z) budget entry.0 arguments tight (Fails k) f → Program_means tight budget p arguments (Fail k) f
-    report_comes k f a = failed k f (allowed (Fail k) f ((same_reports ps (program_of flat) resolved (told_with (integer_at integers) Z) (sizes_told r.typed r.resolved r.told r.usable tight budget arguments of) tight budget entry.0 arguments k f).1 a))
+    report_comes : (k : Report) (f : ℕ) → Files_allow files (told_with (integer_at integers) Z) budget entry.0 arguments tight (Fails k) f → Program_means tight budget p arguments (Fail k) f
+    report_comes k f a = failed k f (allowed (Fail k) f ((same_reports files (program_of flat) resolved (told_with (integer_at integers) Z) (sizes_told r.typed r.resolved r.told r.usable tight budget arguments of) tight budget entry.0 arguments k f).1 a))
 
   pub run_is : Runs_as flat (told_with (integer_at integers) Z) entry tuple results p tight budget arguments
   run_is = record {
     never_wrong = λ f x. wrong_never f (flat_allows Wrong f x);
-    gives = λ ps resolved vs f x. gives_so ps resolved vs f (flat_allows (Val vs) f x);
-    fails = λ ps resolved k f x. fails_so ps resolved k f (flat_allows (Fail k) f x);
+    gives = λ files resolved vs f x. gives_so files resolved vs f (flat_allows (Val vs) f x);
+    fails = λ files resolved k f x. fails_so files resolved k f (flat_allows (Fail k) f x);
     results_come = result_comes;
     reports_come = report_comes;
   }
@@ -197,4 +197,4 @@ pub blocks_mean_the_source : BlocksMeanTheSource
 blocks_mean_the_source flat inference integers Z entry params tuple results hs h p r tight budget arguments of split = run_is r tight budget arguments of split
 
 pub files_allow_some : FilesAllowSome
-files_allow_some flat inference integers Z entry params tuple results typed told usable ps resolved tight budget arguments of = some_allowed typed (ps, resolved) told usable tight budget arguments of ps resolved
+files_allow_some flat inference integers Z entry params tuple results typed told usable files resolved tight budget arguments of = some_allowed typed (files, resolved) told usable tight budget arguments of files resolved

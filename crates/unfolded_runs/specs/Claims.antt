@@ -6,7 +6,6 @@ use Rattle.fut_scalar.specs.declared.place.BindId.{BindId}
 use Rattle.fut_scalar.specs.declared.report.Report.{Report}
 use Rattle.fut_scalar.specs.declared.scalar.IntType.{IntType}
 use Rattle.fut_scalar.specs.declared.sizes.DataType.{DataType}
-use Rattle.fut_ast.specs.declared.module.Program.{Program as SourceProgram}
 use Rattle.fut_flat.specs.declared.program.Definition.{Definition}
 use Rattle.fut_flat.specs.declared.program.Flat.{Flat}
 use Rattle.fut_meaning.specs.Found.{Sizing, Told}
@@ -18,7 +17,8 @@ use Rattle.fut_meaning.specs.Datums.{as_values}
 use Rattle.fut_blocks.specs.declared.block.Program.{Program}
 use Rattle.fut_blocks.specs.Programs.{Program_means, NeverWrong, AreOf}
 use Rattle.elab_laws.specs.Answers.{Files_allow}
-use Rattle.elab_scopes.specs.Programs.{resolve_program}
+use Rattle.elab_scopes.specs.Elaboration.{Elaborates}
+use Rattle.elab_scopes.specs.Imports.{Source_file}
 use Rattle.module_elab.specs.Elaborated.{program_of}
 use Rattle.type_infer.specs.Inferring.{Told_by}
 use Rattle.type_scopes.specs.declared.Inference.{Inference}
@@ -45,7 +45,7 @@ pub record Is_told (flat : Flat) (Z : Sizing) : Type 0 where
   pub sizes : ℕ → Size
   pub is : Is_sizing_of flat names sizes Z
 
--- What is known of a run's program: its typing with the types of its integers, that files resolve to it, a sizing, the number of an
+-- What is known of a run's program: its typing with the types of its integers, that files come to it, a sizing, the number of an
 -- entry with its type, and the blocks to which it unfolds from there.
 pub record Is_run (flat : Flat) (inference : Inference) (integers : List IntType) (Z : Sizing) (entry : BindId) (params : List DataType) (tuple : Bool) (results : List DataType) (hs : Shapes) (h : Shape) (p : Program) : Type 0 where
   pub typed : Told_by (Typed_by flat inference integers) inference
@@ -54,13 +54,13 @@ pub record Is_run (flat : Flat) (inference : Inference) (integers : List IntType
   pub usable : Is_usable flat inference entry params tuple results
   pub unfolds : Program_unfolds (told_with (integer_at integers) Z) (flat_tops 0 (named_terms flat)) entry.0 hs h p
 
--- for arguments of the types of the parameters, tight or not, and the files that resolve to the flat program
+-- for arguments of the types of the parameters, tight or not, and the files that come to the flat program
 pub record Runs_as (flat : Flat) (T : Told) (entry : BindId) (tuple : Bool) (results : List DataType) (p : Program) (tight : Bool) (budget : ℕ) (arguments : List Datum) : Type 0 where
   pub never_wrong : NeverWrong tight budget p arguments
-  pub gives : (ps : List SourceProgram) → resolve_program ps ≡ Ok (program_of flat) → (vs : List Datum) (f : ℕ) → Program_means tight budget p arguments (Val vs) f → (result : Datum) × (opened tuple vs ≡ components_of tuple result) × AreOf results (components_of tuple result) × Files_allow ps (program_of flat) T budget entry.0 arguments tight (Gives result) f
-  pub fails : (ps : List SourceProgram) → resolve_program ps ≡ Ok (program_of flat) → (r : Report) (f : ℕ) → Program_means tight budget p arguments (Fail r) f → Files_allow ps (program_of flat) T budget entry.0 arguments tight (Fails r) f
-  pub results_come : (ps : List SourceProgram) → resolve_program ps ≡ Ok (program_of flat) → (result : Datum) (f : ℕ) → Files_allow ps (program_of flat) T budget entry.0 arguments tight (Gives result) f → (vs : List Datum) × (opened tuple vs ≡ components_of tuple result) × Program_means tight budget p arguments (Val vs) f
-  pub reports_come : (ps : List SourceProgram) → resolve_program ps ≡ Ok (program_of flat) → (r : Report) (f : ℕ) → Files_allow ps (program_of flat) T budget entry.0 arguments tight (Fails r) f → Program_means tight budget p arguments (Fail r) f
+  pub gives : (files : List Source_file) → Elaborates files (Ok (program_of flat)) → (vs : List Datum) (f : ℕ) → Program_means tight budget p arguments (Val vs) f → (result : Datum) × (opened tuple vs ≡ components_of tuple result) × AreOf results (components_of tuple result) × Files_allow files T budget entry.0 arguments tight (Gives result) f
+  pub fails : (files : List Source_file) → Elaborates files (Ok (program_of flat)) → (r : Report) (f : ℕ) → Program_means tight budget p arguments (Fail r) f → Files_allow files T budget entry.0 arguments tight (Fails r) f
+  pub results_come : (files : List Source_file) → Elaborates files (Ok (program_of flat)) → (result : Datum) (f : ℕ) → Files_allow files T budget entry.0 arguments tight (Gives result) f → (vs : List Datum) × (opened tuple vs ≡ components_of tuple result) × Program_means tight budget p arguments (Val vs) f
+  pub reports_come : (files : List Source_file) → Elaborates files (Ok (program_of flat)) → (r : Report) (f : ℕ) → Files_allow files T budget entry.0 arguments tight (Fails r) f → Program_means tight budget p arguments (Fail r) f
 
 -- an answer of an entry whose result has these types
 abbrev pub Answer_is_of : (tuple : Bool) → List DataType → Answer → Type 0
@@ -72,9 +72,9 @@ BlocksMeanTheSource =
     (flat : Flat) (inference : Inference) (integers : List IntType) (Z : Sizing) (entry : BindId) (params : List DataType) (tuple : Bool) (results : List DataType) (hs : Shapes) (h : Shape) (p : Program) → Is_run flat inference integers Z entry params tuple results hs h p
     → (tight : Bool) (budget : ℕ) (arguments : List Datum) → Are_arguments params arguments → All_split hs (as_values (datums arguments)) arguments [] → Runs_as flat (told_with (integer_at integers) Z) entry tuple results p tight budget arguments
 
--- The files that resolve to a typed program allow some answer, by each sizing of it, from each entry that takes and gives data, for
+-- The files that come to a typed program allow some answer, by each sizing of it, from each entry that takes and gives data, for
 -- arguments of the types of its parameters and any budget of turns.
 abbrev pub FilesAllowSome : Type 0
 FilesAllowSome =
     (flat : Flat) (inference : Inference) (integers : List IntType) (Z : Sizing) (entry : BindId) (params : List DataType) (tuple : Bool) (results : List DataType) → Told_by (Typed_by flat inference integers) inference → Is_told flat Z → Is_usable flat inference entry params tuple results
-    → (ps : List SourceProgram) → resolve_program ps ≡ Ok (program_of flat) → (tight : Bool) (budget : ℕ) (arguments : List Datum) → Are_arguments params arguments → (answer : Answer) × (words : ℕ) × Answer_is_of tuple results answer × Files_allow ps (program_of flat) (told_with (integer_at integers) Z) budget entry.0 arguments tight answer words
+    → (files : List Source_file) → Elaborates files (Ok (program_of flat)) → (tight : Bool) (budget : ℕ) (arguments : List Datum) → Are_arguments params arguments → (answer : Answer) × (words : ℕ) × Answer_is_of tuple results answer × Files_allow files (told_with (integer_at integers) Z) budget entry.0 arguments tight answer words

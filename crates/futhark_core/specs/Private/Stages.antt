@@ -98,20 +98,20 @@ Never_wrong_for params turns p = (arguments : List Datum) → Are_arguments para
 -- ---- from tokens to a status
 
 -- why tokens gave no source: memory ran out, or they are not accepted
-abbrev pub ExplainsTokens : List Token → Why → Type 0
-ExplainsTokens tokens why.Memory = Unit {0}
-ExplainsTokens tokens reason = UnacceptedTokens tokens reason
+abbrev pub ExplainsTokens : List ℕ → List Token → Why → Type 0
+ExplainsTokens path tokens why.Memory = Unit {0}
+ExplainsTokens path tokens reason = UnacceptedTokens path tokens reason
 
 -- the tokens are accepted, and then this was the end
 pub record TokensActed (asked : Command) (status : Status) (tokens : List Token) (old new : Streams) : Type 0 where
   pub source : Source
-  pub accepted : AcceptedTokens tokens source
+  pub accepted : AcceptedTokens asked.file tokens source
   pub ended : ActionRow asked.action status asked source old new
 
 -- they are not, and nothing was touched
 pub record TokensRefused (status : Status) (path : List ℕ) (tokens : List Token) (old new : Streams) : Type 0 where
   pub reason : Why
-  pub explains : ExplainsTokens tokens reason
+  pub explains : ExplainsTokens path tokens reason
   pub is : status ≡ status_for reason path
   pub quiet : new ≡ old
 

@@ -1,8 +1,0 @@
-use Rattle.module_laws.proofs.Programs.{declared_adds_nothing, declared_loses_nothing}
-use Rattle.module_laws.proofs.declared_means_the_same.Goals as goal
-
-pub returns-clause-adds_nothing : goal.returns-clause-adds_nothing
-returns-clause-adds_nothing c = declared_adds_nothing
-
-pub returns-clause-loses_nothing : goal.returns-clause-loses_nothing
-returns-clause-loses_nothing c = declared_loses_nothing

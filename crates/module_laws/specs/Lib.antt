@@ -1,2 +1,0 @@
-pub mod Sourced
-pub mod Claims

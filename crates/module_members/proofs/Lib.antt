@@ -1,0 +1,6 @@
+pub mod Steps
+pub mod Loops
+mod GivenLaws
+mod SeenLaws
+mod TypeLaws
+mod RefinedLaws

@@ -1,0 +1,8 @@
+pub mod Laws
+pub mod ModLaws
+pub mod SigLaws
+pub mod DecLaws
+pub mod FileLaws
+mod PartLaws
+mod ImportLaws
+mod Calling
