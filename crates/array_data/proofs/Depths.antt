@@ -1,17 +1,17 @@
 -- How deep data says that it is at most.
-use Rattle.std.proofs.Common.{◌≡◌, ℕ, zero, suc, ◌+◌, ◌-◌, ◌<◌, ◌≤◌, List, [], ◌∷◌, length, get_or, drop, refl, sym, ap, ◌∙◌, arith, add-one}
-use Rattle.std.specs.Prelude.{max, cond, nat_eq}
+use Rattle.std.proofs.Common.{◌≡◌, ℕ, zero, suc, ◌+◌, ◌-◌, ◌<◌, ◌≤◌, List, [], ◌∷◌, length, get_or, drop, Result, refl, sym, ap, ◌∙◌, subst, arith, add-one}
+use Rattle.std.specs.Prelude.{max, cond, nat_eq, IfOk}
 use Rattle.std.proofs.Math.Dec.{eqb-suc-zero}
 use Rattle.std.proofs.Math.Seq.{drop-cons}
 use Rattle.fut_scalar.specs.declared.scalar.Scalar.{Scalar}
 use Rattle.fut_scalar.specs.declared.scalar.ScalarType.{ScalarType}
 use Rattle.fut_ast.specs.Sorts.{Text}
 use Rattle.array_data.specs.declared.form.Form.{Form}
-use Rattle.array_data.specs.declared.data.Data.{Data, fold-roll-Data}
+use Rattle.array_data.specs.declared.data.Data.{Data, fold-roll-Data, out-roll-Data}
 use Rattle.array_data.specs.declared.data.Data.TheOpen as open_data
 use Rattle.array_data.specs.declared.data.Data.TheVariants as hold
 use Rattle.array_data.specs.declared.built.Built.{Built}
-use Rattle.array_data.specs.Depths.{depth_step, depth_told, row_depth_step, row_depth_told, deepest, built_depth}
+use Rattle.array_data.specs.Depths.{depth_step, depth_told, row_depth_step, row_depth_told, deepest, built_depth, depth_of_rows, most_deep, open_parts, parts_in}
 use Rattle.array_data.proofs.Forms.{drop_past}
 
 module _ (d : Data) where
@@ -103,3 +103,54 @@ module _ (n : ℕ) (b : Built) where
   words_made t ws e = sym (depth_words (hold.Words t ws) t ws refl) ∙ words_deep (length b.words) e
 
 pub ruleset rows_made = (array_made, words_made)
+
+-- ---- arrays of rows that are looked at
+
+pub words_told : (t : ScalarType) (ws : List ℕ) → depth_told (hold.Words t ws) ≡ 1
+words_told t ws = sym (depth_words (hold.Words t ws) t ws refl)
+
+pub rows_told : (n m : ℕ) (h : Form) (qs ps ds : List Data) → n ≡ deepest m qs + 1 → qs ≡ ps → depth_told (hold.Rows n h ds) ≡ deepest m ps + 1
+rows_told n m h qs ps ds e q = sym (depth_rows (hold.Rows n h ds) n h ds refl) ∙ e ∙ ap (λ z. deepest m z + 1) q
+
+module _ {E : Type 0} (n : ℕ) (b : Built) (r : Result Data E) where
+  pub of_rows : (ds : List Data) → length b.words ≡ 0 → ds ≡ b.rows → IfOk r (λ d. depth_told d ≡ deepest n ds + 1) → IfOk r (λ d. depth_told d ≡ depth_of_rows n b)
+  unfolding depth_of_rows built_depth
+  of_rows ds l e = subst (λ z. IfOk r (λ d. depth_told d ≡ z)) (ap (λ z. deepest n z + 1) e ∙ ap (λ z. cond (nat_eq z 0) (deepest n b.rows + 1) 1) (sym l))
+
+  pub of_words : (length b.words ≡ 0 → ⊥) → IfOk r (λ d. depth_told d ≡ 1) → IfOk r (λ d. depth_told d ≡ depth_of_rows n b)
+  unfolding depth_of_rows built_depth
+  of_words l = subst (λ z. IfOk r (λ d. depth_told d ≡ z)) (words_deep (deepest n b.rows + 1) b (length b.words) l)
+
+  pub of_depth : (m : ℕ) → m ≡ deepest n b.rows + 1 → IfOk r (λ d. depth_told d ≡ built_depth m b) → IfOk r (λ d. depth_told d ≡ depth_of_rows n b)
+  unfolding depth_of_rows
+  of_depth m e = subst (λ z. IfOk r (λ d. depth_told d ≡ built_depth z b)) e
+
+pub ruleset arrays_made = (words_told, rows_told, of_rows, of_words, of_depth)
+
+-- ---- a record with another part
+
+parts_record : (n : ℕ) (fs : List Text) (ps : List Data) → parts_in (hold.Record n fs ps) ≡ ps
+unfolding parts_in
+parts_record n fs ps = ap parts_in (sym (hold.rolls-Record n fs ps)) ∙ ap open_parts (out-roll-Data (open_data.Record n fs ps))
+
+pub replaced_record : (n : ℕ) (fs : List Text) (xs qs ps : List Data) → n ≡ deepest 0 xs + 1 → xs ≡ qs → ps ≡ qs → depth_told (hold.Record n fs ps) ≡ deepest 0 (parts_in (hold.Record n fs ps)) + 1
+replaced_record n fs xs qs ps e q p = sym (depth_record (hold.Record n fs ps) n fs ps refl) ∙ e ∙ ap (λ z. deepest 0 z + 1) (q ∙ sym p ∙ sym (parts_record n fs ps))
+
+pub ruleset replaced_made = (replaced_record)
+
+-- ---- nothing that is made is too deep
+
+pub few_words : (t : ScalarType) (ws : List ℕ) → depth_told (hold.Words t ws) ≤ most_deep
+few_words t ws = subst (λ z. z ≤ most_deep) (depth_words (hold.Words t ws) t ws refl) (omega arith)
+
+module _ (n : ℕ) (l : n ≤ most_deep) (ds : List Data) where
+  pub few_rows : (h : Form) → depth_told (hold.Rows n h ds) ≤ most_deep
+  few_rows h = subst (λ z. z ≤ most_deep) (depth_rows (hold.Rows n h ds) n h ds refl) l
+
+  pub few_parts : depth_told (hold.Tuple n ds) ≤ most_deep
+  few_parts = subst (λ z. z ≤ most_deep) (depth_tuple (hold.Tuple n ds) n ds refl) l
+
+  pub few_fields : (fs : List Text) → depth_told (hold.Record n fs ds) ≤ most_deep
+  few_fields fs = subst (λ z. z ≤ most_deep) (depth_record (hold.Record n fs ds) n fs ds refl) l
+
+pub ruleset not_too_deep = (few_words, few_rows, few_parts, few_fields)

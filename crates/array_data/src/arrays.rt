@@ -1,10 +1,10 @@
 // Arrays that are made of rows.
-ghost use Rattle.std.specs.Prelude.{◌≡◌, ◌+◌, ◌<◌, false, length, IfOk};
+ghost use Rattle.std.specs.Prelude.{◌≡◌, ◌+◌, ◌<◌, ◌≤◌, false, length, IfOk};
 ghost use Rattle.fut_value.specs.Data.{Shape, Array_datum, datums};
 ghost use Rattle.fut_meaning.specs.Arrays.{all_like, array as array_made, array_of, row_shape};
 ghost use Rattle.array_data.specs.Answers.{Tells};
 ghost use Rattle.array_data.specs.Changes.{Stands_in};
-ghost use Rattle.array_data.specs.Depths.{built_depth, deepest, depth_told};
+ghost use Rattle.array_data.specs.Depths.{built_depth, deepest, depth_of_rows, depth_told, most_deep};
 ghost use Rattle.array_data.specs.Held.{as_held, built_rows, held, held_all, scalars, shape_held};
 
 use crate::built::Built;
@@ -24,7 +24,8 @@ const MOST_DEEP: u32 = 1_000;
 /// too deep.
 #[tactic(auto, using(crate::proofs::Depths::deepest_rows))]
 pub fn deeper(deep: u32, rows: &[Data]) -> Result<u32, NoMemory>
-    ensures { IfOk result (λ most. most ≡ deepest deep rows.now + 1) }
+    ensures value { IfOk result (λ most. most ≡ deepest deep rows.now + 1) }
+    ensures most { IfOk result (λ most. most ≤ most_deep) }
 {
     let mut most = deep;
     for row in rows {
@@ -84,7 +85,7 @@ fn all_are_like(alloc: Global, form: &Form, built: &Built) -> Result<bool, NoMem
 }
 
 /// An array with rows in the place of others of a form, which have to be like them.
-#[tactic(auto, using(crate::proofs::Making::standing_in))]
+#[tactic(auto, using(crate::proofs::Making::standing_in, crate::proofs::Depths::arrays_made))]
 pub fn in_place(
     alloc: Global,
     at: Place,
@@ -92,7 +93,9 @@ pub fn in_place(
     deep: u32,
     built: Built,
 ) -> Result<Data, Stop>
-    ensures { Stands_in at (shape_held form) (built_rows built) (as_held result) }
+    ensures value { Stands_in at (shape_held form) (built_rows built) (as_held result) }
+    ensures deep { IfOk result (λ array. depth_told array ≡ depth_of_rows deep built) }
+    ensures most { IfOk result (λ array. depth_told array ≤ most_deep) }
 {
     if !all_are_like(alloc, form.get(), &built)? {
         return Err(failed(FailKind::Size, at));
@@ -101,10 +104,12 @@ pub fn in_place(
 }
 
 /// The array of words.
-#[tactic(auto, using(crate::proofs::Making::making))]
+#[tactic(auto, using(crate::proofs::Making::making, crate::proofs::Depths::arrays_made, crate::proofs::Depths::not_too_deep))]
 fn array_of_words(alloc: Global, at: Place, ty: ScalarType, words: List<u64>) -> Result<Data, Stop>
     requires { 0 < length words }
-    ensures { (h : Shape) → Tells (array_made false at h (scalars ty words)) (as_held result) }
+    ensures value { (h : Shape) → Tells (array_made false at h (scalars ty words)) (as_held result) }
+    ensures deep { IfOk result (λ array. depth_told array ≡ 1) }
+    ensures most { IfOk result (λ array. depth_told array ≤ most_deep) }
 {
     if words.len() > 33_554_432 {
         return Err(failed(FailKind::TooLarge, at));
@@ -113,7 +118,7 @@ fn array_of_words(alloc: Global, at: Place, ty: ScalarType, words: List<u64>) ->
 }
 
 /// The array of rows. Sizes are tested first, then the weight.
-#[tactic(auto, using(crate::proofs::Making::making))]
+#[tactic(auto, using(crate::proofs::Making::making, crate::proofs::Depths::arrays_made, crate::proofs::Depths::not_too_deep))]
 fn array_of_rows(
     alloc: Global,
     at: Place,
@@ -121,7 +126,9 @@ fn array_of_rows(
     deep: u32,
     rows: List<Data>,
 ) -> Result<Data, Stop>
-    ensures { Tells (array_made false at (shape_held otherwise.now) (held_all rows)) (as_held result) }
+    ensures value { Tells (array_made false at (shape_held otherwise.now) (held_all rows)) (as_held result) }
+    ensures deep { IfOk result (λ array. depth_told array ≡ deepest deep rows + 1) }
+    ensures most { IfOk result (λ array. depth_told array ≤ most_deep) }
 {
     let form = first_form(alloc, otherwise, rows.as_slice())?;
     if !are_like(alloc, form.get(), rows.as_slice())? {
@@ -136,7 +143,7 @@ fn array_of_rows(
 }
 
 /// The array of rows that were put together, which are of a form where there are none.
-#[tactic(auto, using(crate::proofs::Making::making))]
+#[tactic(auto, using(crate::proofs::Making::making, crate::proofs::Depths::arrays_made, crate::proofs::Depths::not_too_deep))]
 pub fn array(
     alloc: Global,
     at: Place,
@@ -144,7 +151,9 @@ pub fn array(
     deep: u32,
     built: Built,
 ) -> Result<Data, Stop>
-    ensures { Tells (array_made false at (shape_held otherwise.now) (built_rows built)) (as_held result) }
+    ensures value { Tells (array_made false at (shape_held otherwise.now) (built_rows built)) (as_held result) }
+    ensures deep { IfOk result (λ array. depth_told array ≡ depth_of_rows deep built) }
+    ensures most { IfOk result (λ array. depth_told array ≤ most_deep) }
 {
     let Built { ty, words, rows } = built;
     if words.len() == 0 {
@@ -157,7 +166,7 @@ pub fn array(
 }
 
 /// The array of rows that were put together and are known to be of a form. Its weight is tested.
-#[tactic(auto, using(crate::proofs::Making::known_making))]
+#[tactic(auto, using(crate::proofs::Making::known_making, crate::proofs::Depths::arrays_made))]
 pub fn array_of_form(
     alloc: Global,
     at: Place,
@@ -165,7 +174,9 @@ pub fn array_of_form(
     deep: u32,
     built: Built,
 ) -> Result<Data, Stop>
-    ensures { Tells (array_of at (shape_held form) (built_rows built)) (as_held result) }
+    ensures value { Tells (array_of at (shape_held form) (built_rows built)) (as_held result) }
+    ensures deep { IfOk result (λ array. depth_told array ≡ depth_of_rows deep built) }
+    ensures most { IfOk result (λ array. depth_told array ≤ most_deep) }
 {
     let Some(n) = built.len() else {
         return Err(Stop::Memory);
@@ -178,21 +189,23 @@ pub fn array_of_form(
 }
 
 /// The array of rows that were put together, whose sizes and weight are known to be right.
-#[tactic(auto, using(crate::proofs::Making::untested_making))]
+#[tactic(auto, using(crate::proofs::Making::untested_making, crate::proofs::Depths::arrays_made))]
 pub fn untested(
     alloc: Global,
     form: Shared<Form>,
     deep: u32,
     built: Built,
 ) -> Result<Data, NoMemory>
-    ensures { IfOk result (λ array. held array ≡ Array_datum (shape_held form) (datums (built_rows built))) }
+    ensures value { IfOk result (λ array. held array ≡ Array_datum (shape_held form) (datums (built_rows built))) }
+    ensures deep { IfOk result (λ array. depth_told array ≡ depth_of_rows deep built) }
+    ensures most { IfOk result (λ array. depth_told array ≤ most_deep) }
 {
     let depth = deeper(deep, built.rows.as_slice())?;
     so_deep(alloc, form, depth, built)
 }
 
 /// The same of rows that an array so deep may have. It takes no look at them.
-#[tactic(auto, using(crate::proofs::Making::untested_making, crate::proofs::Depths::rows_made))]
+#[tactic(auto, using(crate::proofs::Making::untested_making, crate::proofs::Depths::rows_made, crate::proofs::Depths::not_too_deep))]
 pub fn so_deep(
     alloc: Global,
     form: Shared<Form>,
@@ -201,6 +214,7 @@ pub fn so_deep(
 ) -> Result<Data, NoMemory>
     ensures value { IfOk result (λ array. held array ≡ Array_datum (shape_held form) (datums (built_rows built))) }
     ensures deep { IfOk result (λ array. depth_told array ≡ built_depth depth built) }
+    ensures most { IfOk result (λ array. depth_told array ≤ most_deep) }
 {
     if depth > MOST_DEEP {
         return Err(NoMemory);

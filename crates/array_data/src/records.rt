@@ -1,11 +1,11 @@
 // Records of parts, their fields, and the parts of tuples by the names of their positions.
-ghost use Rattle.std.specs.Prelude.{◌≡◌, ◌+◌, ◌<◌, IfOk, IfSome, length, slice_set, true};
+ghost use Rattle.std.specs.Prelude.{◌≡◌, ◌+◌, ◌<◌, ◌≤◌, IfOk, IfSome, length, slice_set, true};
 ghost use Rattle.std.specs.Str.{bytes_eq};
 ghost use Rattle.fut_flat.specs.Erased.{texts};
 ghost use Rattle.fut_value.specs.Data.{Record_datum, datums};
 ghost use Rattle.fut_meaning.specs.Accessors.{or_wrong};
 ghost use Rattle.fut_blocks.specs.Records.{datum_field, datum_part, datum_part_from, datum_parts, named_data};
-ghost use Rattle.array_data.specs.Depths.{deepest, depth_told};
+ghost use Rattle.array_data.specs.Depths.{deepest, depth_told, most_deep, parts_in};
 ghost use Rattle.array_data.specs.Held.{as_held, held, held_all, named_parts};
 ghost use Rattle.array_data.specs.Records.{All_put, Comes_to, Is_first, fields_of, replaced_of};
 
@@ -70,7 +70,7 @@ fn shared_names(names: &[&str], like: Option<&Data>) -> Option<Shared<List<Name>
 }
 
 /// A record of parts, with the names of its fields in their order. It shares the names of another record that has the same.
-#[tactic(auto, using(crate::proofs::Recording::recorded, crate::proofs::Depths::depths_made))]
+#[tactic(auto, using(crate::proofs::Recording::recorded, crate::proofs::Depths::depths_made, crate::proofs::Depths::not_too_deep))]
 pub fn record(
     alloc: Global,
     names: &[&str],
@@ -79,6 +79,7 @@ pub fn record(
 ) -> Result<Data, NoMemory>
     ensures value { IfOk result (λ whole. held whole ≡ Record_datum (named_data (texts names.now) (held_all parts))) }
     ensures deep { IfOk result (λ whole. depth_told whole ≡ deepest 0 parts + 1) }
+    ensures most { IfOk result (λ whole. depth_told whole ≤ most_deep) }
 {
     if names.len() != parts.len() {
         return Err(NoMemory);
@@ -159,9 +160,11 @@ fn parts_with(alloc: Global, parts: &[Data], at: usize, value: &Data) -> Result<
 }
 
 /// A record with another value for the field of a name.
-#[tactic(auto, using(crate::proofs::Recording::replacing))]
+#[tactic(auto, using(crate::proofs::Recording::replacing, crate::proofs::Depths::replaced_made, crate::proofs::Depths::not_too_deep))]
 pub fn replaced(alloc: Global, name: &str, whole: &Data, value: &Data) -> Result<Data, Stop>
-    ensures { Comes_to (replaced_of name.now (held whole.now) (held value.now)) (as_held result) }
+    ensures value { Comes_to (replaced_of name.now (held whole.now) (held value.now)) (as_held result) }
+    ensures deep { IfOk result (λ other. depth_told other ≡ deepest 0 (parts_in other) + 1) }
+    ensures most { IfOk result (λ other. depth_told other ≤ most_deep) }
 {
     let Data::Record(_, names, parts) = whole else {
         return Err(Stop::Memory);

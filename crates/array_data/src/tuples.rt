@@ -1,9 +1,9 @@
 // Tuples and arrays of parts, and the parts of tuples.
-ghost use Rattle.std.specs.Prelude.{◌≡◌, ◌+◌, false, IfOk};
+ghost use Rattle.std.specs.Prelude.{◌≡◌, ◌+◌, ◌≤◌, false, IfOk};
 ghost use Rattle.fut_value.specs.Data.{Tuple_datum, datums};
 ghost use Rattle.fut_meaning.specs.Arrays.{array as array_made};
 ghost use Rattle.array_data.specs.Answers.{All_added, Parted, Tells};
-ghost use Rattle.array_data.specs.Depths.{deepest, depth_told};
+ghost use Rattle.array_data.specs.Depths.{deepest, depth_told, most_deep};
 ghost use Rattle.array_data.specs.Held.{as_held, built_rows, held, held_all, shape_held};
 
 use crate::arrays::{array, deeper};
@@ -15,10 +15,11 @@ use fut_scalar::{List, NoMemory, Place, Shared};
 use std::alloc::Global;
 
 /// A tuple of parts.
-#[tactic(auto, using(crate::proofs::Tupling::tupled, crate::proofs::Depths::depths_made))]
+#[tactic(auto, using(crate::proofs::Tupling::tupled, crate::proofs::Depths::depths_made, crate::proofs::Depths::not_too_deep))]
 pub fn tuple(alloc: Global, parts: List<Data>) -> Result<Data, NoMemory>
     ensures value { IfOk result (λ whole. held whole ≡ Tuple_datum (datums (held_all parts))) }
     ensures deep { IfOk result (λ whole. depth_told whole ≡ deepest 0 parts + 1) }
+    ensures most { IfOk result (λ whole. depth_told whole ≤ most_deep) }
 {
     let deep = deeper(0, parts.as_slice())?;
     Ok(Data::Tuple(deep, Shared::new(alloc, parts)?))

@@ -15,4 +15,4 @@ returns c =
     (shape_held c.in_ok-left.left) (shape_held c.in_ok-right.right) c.in_ok-left.ensures c.in_ok-right.ensures c.do_fit.result
     (c.do_fit.ensures ∙ ap (λ z. nat_eq c.in_ok-n.n 0 || (nat_eq c.in_ok-m.m 0 || same_sizes (shape_held z) (shape_held c.get-2.result.now))) c.get.ensures
     ∙ ap (λ z. nat_eq c.in_ok-n.n 0 || (nat_eq c.in_ok-m.m 0 || same_sizes (shape_held c.in_ok-left.left) (shape_held z))) c.get-2.ensures)
-    (shape_held c.in_ok-form.form) (built_rows c.new-built.result) _ _ _ fit c.in_ok-form.ensures c.new-built.ensures c.in_ok-push_part.ensures c.in_ok-push_part-2.ensures c.array_of_form.ensures
+    (shape_held c.in_ok-form.form) (built_rows c.new-built.result) _ _ _ fit c.in_ok-form.ensures c.new-built.ensures c.in_ok-push_part.ensures c.in_ok-push_part-2.ensures c.array_of_form.ensures.value

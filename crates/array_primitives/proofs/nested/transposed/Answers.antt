@@ -8,4 +8,4 @@ returns-then-not-branch c = transpose_heavy c.args.at c.args.form.now c.args.row
 
 pub returns : goal.returns
 returns c = transpose_done c.args.at c.args.form.now c.args.rows.now c.requires c.size_of-many.result c.size_of-many.ensures c.in_ok-element.element c.in_ok-share.field-0 c.in_ok-element.ensures c.in_ok-share.ensures _ refl c.in_ok-column.column c.in_ok-column.ensures c.in_ok-are_light.field-0 c.in_ok-are_light.ensures (search rules)
-    c.size_of-many.result (built_rows c.in_ok-built.built) (held c.in_ok-untested.field-0) refl c.in_ok-built.ensures c.in_ok-untested.ensures
+    c.size_of-many.result (built_rows c.in_ok-built.built) (held c.in_ok-untested.field-0) refl c.in_ok-built.ensures c.in_ok-untested.ensures.value

@@ -8,4 +8,4 @@ returns-then-not-branch c = groups_heavy c.args.at (held c.args.whole.now) c.arg
 
 pub returns : goal.returns
 returns c = groups_told c.args.at (held c.args.whole.now) c.args.many c.args.long c.in_ok-element.element c.in_ok-share.field-0 c.in_ok-row.row c.in_ok-element.ensures c.in_ok-share.ensures c.in_ok-row.ensures c.in_ok-are_light.field-0 c.in_ok-are_light.ensures (search rules)
-    c.args.many c.args.long (built_rows c.in_ok-built.built) (held c.in_ok-untested.field-0) refl refl c.in_ok-built.ensures c.in_ok-untested.ensures
+    c.args.many c.args.long (built_rows c.in_ok-built.built) (held c.in_ok-untested.field-0) refl refl c.in_ok-built.ensures c.in_ok-untested.ensures.value
