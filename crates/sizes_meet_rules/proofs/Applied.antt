@@ -9,19 +9,21 @@ use Rattle.fut_types.specs.declared.Kind.{Kind}
 use Rattle.fut_types.specs.Types.{Ty, fun_ty, Sub, Kinds, HasKind, rank, level}
 use Rattle.fut_typing.specs.Names.{Names}
 use Rattle.sized_types.specs.Sizes.{Free, Const, Name, Own, Unknown, Slot, Dim, At, Bound, Variable, Size, Hole, Open, Level, Built, Fun, Sizes, no_size, size_and, erased, renamed}
-use Rattle.fut_sizes.specs.Applications.{Later, Argument, Part, Applied, is_arrow, uses}
+use Rattle.fut_sizes.specs.Agreeing.{Answer}
+use Rattle.fut_sizes.specs.Applications.{Later, Argument, Part, Applied, uses}
+use Rattle.fut_sizes.specs.Primitives.{prim_size, is_regular}
 use Rattle.fut_sizes.specs.Functions.{is_slot, unknown_slot, closed}
-use Rattle.fut_sizes.specs.Matching.{Found, nothing_found, found_size, found_dim, read, all_read, Opened, none_opened, dim_in, in_opened}
+use Rattle.fut_sizes.specs.Matching.{Found, nothing_found, made_at, found_size, found_dim, read, all_read, Opened, none_opened, dim_in, in_opened}
 use Rattle.fut_sizes.specs.Rules.{Each_hole, Sized}
-use Rattle.fut_sizes.specs.Scopes.{Scope}
+use Rattle.fut_sizes.specs.Scopes.{Scope, instance}
 use Rattle.fut_sizes.specs.Scoping.{Context}
 use Rattle.fut_sizes.specs.Sizing.{finished}
 use Rattle.fut_sizes.specs.Steps.{State, Done, at_node}
-use Rattle.fut_sizes.specs.Suiting.{Each, Data}
+use Rattle.fut_sizes.specs.Suiting.{Each}
 use Rattle.sizes_meet_rules.specs.Known.{Says, Judged, Elsewhere}
 use Rattle.sizes_meet_rules.specs.Plain.{Flat_function, Is_call}
 use Rattle.sizes_meet_rules.proofs.Applying.{read_twice}
-use Rattle.sizes_meet_rules.proofs.Chains.{Gives, Given, arguments, Takes_all, widened, widened_widths, here, opened_by, after, wants, laters, last_opened, last_size, last_goes, last_found, Matched_ran, last_slots, arrows_of, argument_by, All_plain, Reads, Kept, met_all}
+use Rattle.sizes_meet_rules.proofs.Chains.{Gives, Given, Waiting_given, Widths, arguments, Takes_all, widened, widened_widths, here, opened_by, after, wants, laters, last_opened, last_size, last_goes, last_found, Matched_ran, last_slots, arrows_of, argument_by, All_plain, Reads, Kept, met_all}
 use Rattle.sizes_meet_rules.proofs.Fitting.{Gives_type, function_gives}
 use Rattle.sizes_meet_rules.proofs.Frames.{Okay, none_meant, by_itself, Frames, not_filled, Framed, Settled_parameters, quantified_as}
 use Rattle.sizes_meet_rules.proofs.Meeting.{at_itself, at_another, With_met, met_settled}
@@ -35,10 +37,14 @@ use Rattle.fut_sizes.specs.Levels.{levels_within}
 use Rattle.fut_sizes.specs.Applications.{Want, Met}
 use Rattle.fut_sizes.specs.Steps.{Step}
 use Rattle.sizes_meet_rules.proofs.Meeting.{Meets}
-use Rattle.sizes_meet_rules.proofs.Heads.{Head, Primitive_head, Resolved, resolved, primitive_lambda}
-use Rattle.sizes_meet_rules.proofs.Parts.{spine, all_some, Data_meets, Function_meets, Lambda_waits, All_given, One_waits, All_parts, below, none_dropped, not_in_outside, Later_part, all_plain, all_fit, Last_says, last_says, Inner_nodes, nodes_of, stage_here, rules_all}
-use Rattle.sizes_meet_rules.proofs.Later.{sized_by, state_by, Went_by, sized_arguments, sized_arrows, sized_spine, sized_placed, sized_widths, data_parts, one_parts, none_later, one_later, one_given}
-use Rattle.sizes_meet_rules.proofs.Spines.{Spine, Spine_law}
+use Rattle.sizes_meet_rules.proofs.Heads.{Head, Primitive_head, Resolved, resolved, primitive_lambda, primitive_wide}
+use Rattle.sizes_meet_rules.proofs.Parts.{spine, all_some, Data_meets, Function_meets, Lambda_waits, Lambda_wide, All_given, One_waits, First_waits, All_parts, below, none_dropped, not_in_outside, Later_part, all_plain, all_fit, Last_says, last_says, Inner_nodes, nodes_of, stage_here, rules_all}
+use Rattle.sizes_meet_rules.proofs.Later.{own_state, with_size, sized_by, state_by, Went_by, sized_arguments, sized_arrows, sized_spine, sized_placed, sized_widths, data_parts, one_parts, none_later, one_later, one_given}
+use Rattle.sizes_meet_rules.proofs.Spines.{Spine, Spine_meets, Spine_law}
+use Rattle.sizes_meet_rules.proofs.Lambdas.{Wants_formed, wanted_of, found_behind, Lambda_result, All_data_given}
+use Rattle.sizes_meet_rules.proofs.Primitives.{types_there}
+use Rattle.sizes_meet_rules.proofs.Wanting.{then_is}
+use Rattle.sizes_meet_rules.proofs.Wide.{same_wanted, same_behind, wide_size, wide_is_function, wide_answer, behind_settled, Wide_went, wide_meets, wide_later, wide_gives}
 
 -- what is read does not hang on the numbers that are taken
 module _ (lo : ℕ) (In P : Free → Type 0) (no_slot : (d : Free) → In d → is_slot d ≡ false) (settled : (d : Free) → P d → is_slot d ≡ false) (σ : Found) (n : ℕ) (m : ℕ → ℕ) where
@@ -113,10 +119,10 @@ module _ (N : Names) (types : Sub) (home : ℕ → ℕ) (K : Kinds) (places : Ki
 
   module _ (In : Free → Type 0) (Vars : Variable → Type 0) (scope : Scope) where
     wide_data : (g : Given) (m : ℕ) (st mid : State) → Data_meets N types home K places data_places In Vars scope g st mid → Data_meets N types home K places data_places In Vars scope (record { node = g.node; value = g.value; named = g.named; size = g.size; term = g.term; width = m; waits = g.waits }) st mid
-    wide_data g m st mid h = (record { value_is = h.0.value_is; inner = h.0.inner; noted = h.0.noted; value_known = h.0.value_known }, h.1)
+    wide_data g m st mid h = (record { value_is = h.0.value_is; inner = record { says = h.0.inner.says; typed = h.0.inner.typed; kept = h.0.inner.kept; dropped = h.0.inner.dropped; rules = h.0.inner.rules }; noted = h.0.noted; value_known = h.0.value_known }, h.1)
 
     wide_function : (g : Given) (m : ℕ) (st mid : State) → Function_meets N types home K places data_places In Vars scope g st mid → Function_meets N types home K places data_places In Vars scope (record { node = g.node; value = g.value; named = g.named; size = g.size; term = g.term; width = m; waits = g.waits }) st mid
-    wide_function g m st mid h = (record { value_is = h.0.value_is; inner = h.0.inner; noted = h.0.noted; value_known = h.0.value_known }, h.1)
+    wide_function g m st mid h = (record { value_is = h.0.value_is; inner = record { says = h.0.inner.says; typed = h.0.inner.typed; kept = h.0.inner.kept; dropped = h.0.inner.dropped; rules = h.0.inner.rules }; noted = h.0.noted; value_known = h.0.value_known }, h.1)
 
     wide_given : (gs : List Given) (t : Size) (st A : State) → All_given N types home K places data_places In Vars scope gs st A → All_given N types home K places data_places In Vars scope (widened gs t) st A
     wide_given [] t st A h = h
@@ -138,6 +144,14 @@ module _ (N : Names) (types : Sub) (home : ℕ → ℕ) (K : Kinds) (places : Ki
     wide_waits (g ∷ gs) (Open m v u) st A h = h
     wide_waits (g ∷ gs) (Level d t) st A h = h
     wide_waits (g ∷ gs) (Built f ts) st A h = h
+
+    wide_first : (gs : List Given) (t : Size) (st A : State) → First_waits N types home K places data_places In Vars scope gs st A → First_waits N types home K places data_places In Vars scope (widened gs t) st A
+    wide_first [] t st A h = absurd h
+    wide_first (g ∷ gs) (Fun k p r) st A h = (record { st = h.0.st; part = h.0.part; waits = h.0.waits; waits_is = h.0.waits_is; value = h.0.value; named = h.0.named; is_fun = h.0.is_fun; gives = h.0.gives }, wide_given gs r st A h.1)
+    wide_first (g ∷ gs) (Hole v) st A h = h
+    wide_first (g ∷ gs) (Open m v u) st A h = h
+    wide_first (g ∷ gs) (Level d t) st A h = h
+    wide_first (g ∷ gs) (Built f ts) st A h = h
 
   -- ---- it is applied to all of them
 
@@ -170,7 +184,7 @@ module _ (N : Names) (types : Sub) (home : ℕ → ℕ) (K : Kinds) (places : Ki
 
   module _ (In : Free → Type 0) (Vars : Variable → Type 0) (scope : Scope) (f : FlatTerm) (lo : ℕ) (E : Elsewhere N types home lo (lo + numbers f) In) (term : FlatTerm) (term_some : 1 ≤ numbers term) (gs : List Given) (is : f ≡ spine term gs) (placed : Placed gs (lo + length (arguments gs) + numbers term) (lo + numbers f)) (some : Nonempty gs) (u : Done Size)
       (t : Size) (says : Says (With_met In (lo + length (arguments gs) + numbers term) (lo + numbers f)) Vars t) (size_typed : erased t ≡ arrows_of types gs (types lo)) (takes : Takes_all gs t) (M : Matched_ran lo N types gs t u) (rule : (m : ℕ) (s : ℕ → Size) (G : Context) → Judged In Vars scope G → s m ≡ t → Sized N types s home term m G)
-      (st A : State) (parts : All_parts N types home K places data_places In Vars scope A M.after gs st A) (later : Later_part N types home K places data_places In Vars scope A M.after gs) where
+      (st A : State) (parts : All_parts N types home K places data_places In Vars scope (lo + numbers f) A M.after gs st A) (later : Later_part N types home K places data_places In Vars scope A M.after gs) where
     abbrev B : State
     B = M.after
 
@@ -319,8 +333,8 @@ module _ (N : Names) (types : Sub) (home : ℕ → ℕ) (K : Kinds) (places : Ki
       says = subst (λ w. Says (With_met In lo hi) Vars w) result_here last.says;
       typed = ap erased (sym result_here) ∙ last.typed;
       here = result_here;
-      kept = λ x o. node_else x (λ z. no_more x o z) ∙ noting_other N types τ all_laters B.nodes x (within_avoids N types τ (suc lo) hi all_laters x (above x o) all_within) ∙ later.nodes x (not_in_outside N types home K places data_places In Vars scope gs first hi placed x (beyond x o)) ∙ below N types home K places data_places In Vars scope A B gs st A first hi placed parts x (beyond x o);
-      dropped = λ x o. ap (λ (x' : Done Size). x'.state.dropped x) now ∙ later.dropped x (not_in_outside N types home K places data_places In Vars scope gs first hi placed x (beyond x o)) ∙ none_dropped N types home K places data_places In Vars scope A B gs st A first hi placed parts x (beyond x o);
+      kept = λ x o. node_else x (λ z. no_more x o z) ∙ noting_other N types τ all_laters B.nodes x (within_avoids N types τ (suc lo) hi all_laters x (above x o) all_within) ∙ later.nodes x (not_in_outside N types home K places data_places In Vars scope gs first hi placed x (beyond x o)) ∙ below N types home K places data_places In Vars scope hi A B gs st A first hi placed parts x (beyond x o);
+      dropped = λ x o. ap (λ (x' : Done Size). x'.state.dropped x) now ∙ later.dropped x (not_in_outside N types home K places data_places In Vars scope gs first hi placed x (beyond x o)) ∙ none_dropped N types home K places data_places In Vars scope hi A B gs st A first hi placed parts x (beyond x o);
       rules = λ s G J agrees. spine_rules s G J agrees;
     }
 
@@ -402,13 +416,13 @@ module _ (N : Names) (types : Sub) (home : ℕ → ℕ) (K : Kinds) (places : Ki
         abbrev Resolved_there : (State → Type 0) → Type 0
         Resolved_there Ends = Resolved N types home K In Vars scope S.term S.size S.regular S.type Known_here (λ x i. inl i) settled_here lo gs d.state u Ends
 
-        meets_there : (Ends : State → Type 0) (R : Resolved_there Ends) → All_parts N types home K places data_places In Vars scope d.state R.ran.after gs st d.state → Later_part N types home K places data_places In Vars scope d.state R.ran.after gs → Meets N types home In Vars scope f lo end_here st u.result u.state
+        meets_there : (Ends : State → Type 0) (R : Resolved_there Ends) → All_parts N types home K places data_places In Vars scope end_here d.state R.ran.after gs st d.state → Later_part N types home K places data_places In Vars scope d.state R.ran.after gs → Meets N types home In Vars scope f lo end_here st u.result u.state
         meets_there Ends R parts later = spine_meets In Vars scope f lo E S.term S.some gs is_there placed_there some_there u R.size R.says (R.typed ∙ arrows_there) R.takes R.ran R.rule st d.state parts later
 
       -- data alone
       data_meets : All_given N types home K places data_places In Vars scope S.given st d.state → Meets N types home In Vars scope f lo end_here st u.result u.state
       data_meets h = meets_there wide refl (λ x. refl) refl (λ p. p) (wide_some S.given S.size some) (λ s. s ≡ d.state) R
-          (subst (λ B. All_parts N types home K places data_places In Vars scope d.state B wide st d.state) (sym R.ends) (data_parts N types home K places data_places In Vars scope d.state d.state wide st d.state wide_h))
+          (subst (λ B. All_parts N types home K places data_places In Vars scope end_here d.state B wide st d.state) (sym R.ends) (data_parts N types home K places data_places In Vars scope end_here d.state d.state wide st d.state wide_h))
           (subst (λ B. Later_part N types home K places data_places In Vars scope d.state B wide) (sym R.ends) (none_later N types home K places data_places In Vars scope d.state wide))
         where
           wide_h : All_given N types home K places data_places In Vars scope wide st d.state
@@ -423,7 +437,7 @@ module _ (N : Names) (types : Sub) (home : ℕ → ℕ) (K : Kinds) (places : Ki
       -- and a lambda
       lambda_meets : One_waits N types home K places data_places In Vars scope S.given st d.state → Primitive_head N types home K In Vars scope S.term S.size S.regular S.type → Meets N types home In Vars scope f lo end_here st u.result u.state
       lambda_meets h H = meets_there gs same_arguments same_arrows same_spine same_placed some_there (λ s. Went × (s ≡ behind)) R
-          (subst (λ B. All_parts N types home K places data_places In Vars scope d.state B gs st d.state) (sym R.ends.1) (one_parts N types home K places data_places In Vars scope wide st d.state wide_h R.ends.0))
+          (subst (λ B. All_parts N types home K places data_places In Vars scope end_here d.state B gs st d.state) (sym R.ends.1) (one_parts N types home K places data_places In Vars scope first_there end_here wide st d.state wide_h placed_here R.ends.0))
           (subst (λ B. Later_part N types home K places data_places In Vars scope d.state B gs) (sym R.ends.1) (one_later N types home K places data_places In Vars scope wide st d.state wide_h R.ends.0))
         where
           wide_h : One_waits N types home K places data_places In Vars scope wide st d.state
@@ -465,12 +479,106 @@ module _ (N : Names) (types : Sub) (home : ℕ → ℕ) (K : Kinds) (places : Ki
               (arrows_there gs same_arguments same_arrows same_spine same_placed some_there) (sized_widths N types home K places data_places In Vars scope wide st d.state wide_h S.size (widened_widths S.given S.size)) (ran_there gs same_arguments same_arrows same_spine same_placed some_there) H (data_kind H)
               Went behind (one_given N types home K places data_places In Vars scope lo first_there end_here E (omega arith) Went wide st d.state first_there (omega arith) placed_here wide_h (λ w. w))
 
+      -- and a lambda before data, which takes the parameters that are wanted of it
+      module _ (g : Given) (gs : List Given) (z : g ∷ gs ≡ wide) (L : Lambda_wide N types home K places data_places In Vars scope g) (h : All_given N types home K places data_places In Vars scope gs st d.state) (H : Primitive_head N types home K In Vars scope S.term S.size S.regular S.type) where
+        abbrev opened_size : Size
+        opened_size = instance H.node (types_there H.node H.primitive S.type H.given H.typed) (prim_size H.primitive)
+
+        abbrev answer : Answer (Done Met)
+        answer = wide_answer N types home K places data_places In Vars scope g L gs lo (is_regular H.primitive) opened_size d.state
+
+        abbrev first_now : Given
+        first_now = with_size g (wide_size answer)
+
+        abbrev behind : State
+        behind = own_state d.state answer
+
+        waits_now : argument_by first_now.waits first_now ≡ argument_by g.waits g
+        waits_now = ap (λ o. argument_by o first_now) L.waits_is ∙ ap (λ o. argument_by o g) (sym L.waits_is)
+
+        same_arguments : arguments (first_now ∷ gs) ≡ arguments wide
+        same_arguments = ap (λ a. a ∷ arguments gs) waits_now ∙ ap arguments z
+
+        same_arrows : (x : Ty) → arrows_of types (first_now ∷ gs) x ≡ arrows_of types wide x
+        same_arrows x = ap (λ ws. arrows_of types ws x) z
+
+        same_spine : spine S.term (first_now ∷ gs) ≡ spine S.term wide
+        same_spine = ap (spine S.term) z
+
+        same_placed : Placed wide (lo + length (arguments wide) + numbers S.term) end_here → Placed (first_now ∷ gs) (lo + length (arguments wide) + numbers S.term) end_here
+        same_placed p = subst (λ ws. Placed ws (lo + length (arguments wide) + numbers S.term) end_here) (sym z) p
+
+        abbrev from_there : ℕ
+        from_there = first_here (first_now ∷ gs) same_arguments same_arrows same_spine same_placed tt
+
+        low : lo ≤ from_there
+        low = omega arith
+
+        placed_now : Placed (first_now ∷ gs) from_there end_here
+        placed_now = placed_there (first_now ∷ gs) same_arguments same_arrows same_spine same_placed tt
+
+        node_is : from_there ≡ g.node
+        node_is = sym placed_now.0
+
+        first_room : g.node + numbers g.term ≤ end_here
+        first_room = let y = placed_now.0 in let q = placed_order gs (from_there + numbers g.term) end_here placed_now.1 in omega (arith, y, q)
+
+        abbrev Went : Type 0
+        Went = Wide_went N types home K places data_places In Vars scope lo from_there end_here E low g L node_is first_room answer d.state
+
+        abbrev Behind_it : Free → Type 0
+        Behind_it x = With_met In (g.node + numbers g.term) end_here x
+
+        abbrev waiting_now : Waiting_given first_now
+        waiting_now = record { waiting = L.waits.waiting; waits = L.waits_is; value = L.value; named = L.named; is_fun = wide_is_function answer }
+
+        data_all : All_data_given (λ x. With_met In from_there end_here x) Vars K types gs
+        data_all = all_fit N types home K places data_places In Vars scope lo from_there end_here E low gs st d.state (from_there + numbers g.term) (omega arith) placed_now.1 h
+
+        data_there : All_data_given Behind_it Vars K types gs
+        data_there = all_fit N types home K places data_places In Vars scope lo (g.node + numbers g.term) end_here E (let y = node_is in omega (arith, y)) gs st d.state (g.node + numbers g.term) (omega arith) (subst (λ m. Placed gs (m + numbers g.term) end_here) node_is placed_now.1) h
+
+        run : (before : Found) (m : Done Met) → found_behind lo first_now gs opened_size ≡ Ok before → Wants_formed Behind_it K (wanted_of lo (is_regular H.primitive) first_now gs opened_size before).size × (erased (wanted_of lo (is_regular H.primitive) first_now gs opened_size before).size ≡ types g.node)
+            → L.waits.waiting (Some (wanted_of lo (is_regular H.primitive) first_now gs opened_size before)) (made_at (here lo gs) before) d.state ≡ Ok m
+            → Lambda_result (λ x. With_met In from_there end_here x) Vars Went behind first_now (types g.node) (wanted_of lo (is_regular H.primitive) first_now gs opened_size before) (made_at (here lo gs) before) m
+        run before m b f q =
+            let w = wanted_of lo (is_regular H.primitive) first_now gs opened_size before in
+            let is : answer ≡ Ok m = then_is (found_behind lo g gs opened_size) (λ y. L.waits.waiting (Some (wanted_of lo (is_regular H.primitive) g gs opened_size y)) (made_at (here lo gs) y) d.state) (sym (same_behind lo g (wide_size answer) gs opened_size) ∙ b)
+            (ap (λ (v : Want). L.waits.waiting (Some v) (made_at (here lo gs) before) d.state) (sym (same_wanted lo (is_regular H.primitive) g (wide_size answer) gs opened_size before)) ∙ q) in
+            wide_gives N types home K places data_places In Vars scope lo from_there end_here E low g L node_is first_room answer d.state w (made_at (here lo gs) before) m is f.0 f.1 q
+
+        R : Resolved N types home K In Vars scope S.term S.size S.regular S.type (λ x. With_met In from_there end_here x) (λ x i. inl i) (settled_here (first_now ∷ gs) same_arguments same_arrows same_spine same_placed tt) lo (first_now ∷ gs) d.state u (λ s. Went × (s ≡ behind))
+        R = primitive_wide N types home K In Vars scope S.term S.size S.regular S.type (λ x. With_met In from_there end_here x) (λ x i. inl i) (settled_here (first_now ∷ gs) same_arguments same_arrows same_spine same_placed tt) Behind_it (behind_settled N types home K places data_places In Vars scope lo from_there end_here E low g L node_is first_room answer d.state)
+            lo first_now gs d.state u (types lo) (arrows_there (first_now ∷ gs) same_arguments same_arrows same_spine same_placed tt) (sized_width (subst (λ ws. Widths ws S.size) (sym z) (widened_widths S.given S.size))) (ran_there (first_now ∷ gs) same_arguments same_arrows same_spine same_placed tt) H (data_kind H)
+            Went behind waiting_now L.waits.of_function.0 L.waits.of_function.1.0 L.waits.of_function.1.1 data_all data_there run
+          where
+            by_size : (t : Size) → Widths (g ∷ gs) t → Widths (first_now ∷ gs) t
+            by_size (Fun k p r) w = w
+            by_size (Hole v) w = tt
+            by_size (Open m v x) w = tt
+            by_size (Level e t) w = tt
+            by_size (Built h ts) w = tt
+
+            sized_width : Widths (g ∷ gs) S.size → Widths (first_now ∷ gs) S.size
+            sized_width w = by_size S.size w
+
+        one_first : Meets N types home In Vars scope f lo end_here st u.result u.state
+        one_first = meets_there (first_now ∷ gs) same_arguments same_arrows same_spine same_placed tt (λ s. Went × (s ≡ behind)) R
+            (subst (λ B. All_parts N types home K places data_places In Vars scope end_here d.state B (first_now ∷ gs) st d.state) (sym R.ends.1)
+            (st, (inr (wide_meets N types home K places data_places In Vars scope lo from_there end_here E low g L node_is first_room answer d.state R.ends.0, refl), data_parts N types home K places data_places In Vars scope end_here behind d.state gs st d.state h)))
+            (subst (λ B. Later_part N types home K places data_places In Vars scope d.state B (first_now ∷ gs)) (sym R.ends.1) (wide_later N types home K places data_places In Vars scope lo from_there end_here E low g L node_is first_room answer d.state R.ends.0 gs))
+
+      first_meets : (ws : List Given) → ws ≡ wide → First_waits N types home K places data_places In Vars scope ws st d.state → Primitive_head N types home K In Vars scope S.term S.size S.regular S.type → Meets N types home In Vars scope f lo end_here st u.result u.state
+      first_meets [] z h H = absurd h
+      first_meets (g ∷ gs) z h H = one_first g gs z h.0 h.1 H
+
       any_meets : Meets N types home In Vars scope f lo end_here st u.result u.state
       any_meets = by_kind S.meet
         where
-          by_kind : All_given N types home K places data_places In Vars scope S.given st d.state ⊎ ((false ≡ false) × One_waits N types home K places data_places In Vars scope S.given st d.state × Primitive_head N types home K In Vars scope S.term S.size S.regular S.type) → Meets N types home In Vars scope f lo end_here st u.result u.state
+          by_kind : Spine_meets N types home K places data_places false In Vars scope S.given st d.state (Primitive_head N types home K In Vars scope S.term S.size S.regular S.type) → Meets N types home In Vars scope f lo end_here st u.result u.state
           by_kind (inl h) = data_meets h
-          by_kind (inr h) = lambda_meets h.1 h.2
+          by_kind (inr (inl h)) = lambda_meets h.1 h.2
+          by_kind (inr (inr h)) = first_meets wide refl (wide_first In Vars scope S.given S.size st d.state h.1) h.2
 
   pub apply_part : (f e : FlatTerm) → Spine_law N types home K places data_places (Apply f e) → Law_of N types home K places (Apply f e)
   apply_part f e law In Vars scope T lo st d pl t known E q = inr (inr (record {

@@ -1,25 +1,23 @@
 -- Definitions in a row meet the rules: each is a function that says no sizes but constants and numbers that are defined before it, or
--- such a number, or of other data without arrays.
+-- such a number, or other data whose sizes are told.
 use Rattle.std.proofs.Common.{◌≡◌, ◌⊎◌, ℕ, ◌+◌, ◌<◌, ◌≤◌, List, [], ◌∷◌, Bool, true, false, ◌||◌, ◌&&◌, cond, nat_eq, Ok, refl, sym, ap, ◌∙◌, subst, arith, inl, inr, eqb-true}
 use Rattle.std.specs.Prelude.{nat_le}
 use Rattle.std.proofs.lemmas.Bool.{leb-true}
 use Rattle.fut_scalar.specs.declared.place.BindId.{BindId}
 use Rattle.fut_flat.specs.declared.prim.Ref.{Ref}
-use Rattle.fut_flat.specs.declared.prim.Ref.TheVariants as ref
+use Rattle.fut_scalar.specs.declared.place.Place.{Place}
 use Rattle.fut_flat.specs.Numbers.{numbers}
-use Rattle.fut_flat.specs.Terms.{Bound_pattern, Wild_pattern, Tuple_pattern, Record_pattern, Typed_pattern, Parameter, Type_use, Tuple_type, Type_terms, no_arg, no_type, type_and, Declared, Truth, Strict}
+use Rattle.fut_flat.specs.Terms.{Bound_pattern, Wild_pattern, Tuple_pattern, Record_pattern, Typed_pattern, Parameter, Declared, Strict, Terms}
 use Rattle.fut_flat.specs.Erased.{FlatTerm, FlatPattern, FlatType}
-use Rattle.fut_types.specs.declared.Head.TheVariants as head
 use Rattle.fut_types.specs.declared.Kind.{Kind}
-use Rattle.fut_types.specs.Types.{Ty, Made, Tys, none, more, Sub, Kinds, level, fun_ty}
+use Rattle.fut_types.specs.Types.{Ty, Sub, Kinds, level, fun_ty}
 use Rattle.fut_typing.specs.Free.{is_within, is_free}
 use Rattle.fut_typing.specs.Generalised.{own_types, Reused}
 use Rattle.fut_typing.specs.Names.{Names}
-use Rattle.fut_typing.specs.Primitives.{bool_ty, i64_ty}
+use Rattle.fut_typing.specs.Primitives.{i64_ty}
 use Rattle.fut_typing.specs.Patterns.{with_parameters}
 use Rattle.fut_typing.specs.Program.{Defined, definition_scheme, Definitions_typed}
-use Rattle.fut_typing.specs.Rules.{Rule}
-use Rattle.fut_typing.specs.Scopes.{Uses, Scope as TypeScope, with_uses, Denotes, All_denote}
+use Rattle.fut_typing.specs.Scopes.{Uses, Scope as TypeScope, with_uses}
 use Rattle.fut_typing.specs.Typing.{Typed}
 use Rattle.sized_types.specs.Sizes.{Free, Const, Name, Own, Unknown, Slot, Size, Fun, erased}
 use Rattle.fut_sizes.specs.Agreeing.{Answer, is_among}
@@ -35,16 +33,17 @@ use Rattle.fut_sizes.specs.Steps.{State, Done, ask}
 use Rattle.fut_sizes.specs.Suiting.{Each, Each_all, Scoped}
 use Rattle.sizes_meet_rules.specs.Claims.{Definitions_have_types}
 use Rattle.sizes_meet_rules.specs.Known.{is_i64_size, Formed, All_formed, Says, Known_names, Is_const, Judged, Elsewhere}
-use Rattle.sizes_meet_rules.specs.Plain.{Flat_type, Written_flat, All_written_flat, One_type, Flat_definition, Formed_type, Is_lambda, Are_sizes, Plain_headed, Plain_term, Function_definition, Number_definition, Plain_definitions}
+use Rattle.sizes_meet_rules.specs.Plain.{Flat_type, Written_whole, Sizes_told, Data_definition, Formed_type, Is_lambda, Are_sizes, Plain_headed, Plain_term, Function_definition, Number_definition, Plain_definitions}
 use Rattle.sizes_meet_rules.proofs.Applying.{Function_size, function_is, number_size}
-use Rattle.sizes_meet_rules.proofs.Flat_types.{flat, flat_is, flat_each, flat_holes, flat_formed, flat_erased}
+use Rattle.sizes_meet_rules.proofs.Flat_types.{flat_is, flat_each}
+use Rattle.sizes_meet_rules.proofs.Declaring.{one_typed, whole_written, one_term, declared_is}
 use Rattle.sizes_meet_rules.proofs.Forming.{is_i64_ty, i64_ty_is, number_typed}
 use Rattle.sizes_meet_rules.proofs.Naming.{known_wider}
 use Rattle.sizes_meet_rules.proofs.Generalising.{with_function, known_general, judged_general, lambda_arrow}
 use Rattle.sizes_meet_rules.proofs.Meeting.{Then_ok, then_ok, asked, same_ok, at_itself, at_another, each_scoped, In_nodes, away_of, Meets, Waits, finished_meets, function_knows}
 use Rattle.sizes_meet_rules.proofs.Replacing.{hole_as}
 use Rattle.sizes_meet_rules.proofs.Settling.{Any_variable, noted}
-use Rattle.sizes_meet_rules.proofs.Showing.{numbers_some, alone}
+use Rattle.sizes_meet_rules.proofs.Showing.{numbers_some, alone, sizes_written}
 use Rattle.sizes_meet_rules.proofs.Heading.{known_headed}
 use Rattle.sizes_meet_rules.proofs.Using.{None_there}
 use Rattle.sizes_meet_rules.proofs.Walking.{headed_part, term_part}
@@ -89,32 +88,6 @@ among_one c b e = by_name (nat_eq c b) refl e
     by_name : (k : Bool) → nat_eq c b ≡ k → cond k true false ≡ true → c ≡ b
     by_name true f e = eqb-true c b f
     by_name false f e = absurd (let z : false ≡ true = e in cc)
-
--- ---- a value that has one type in all of its typings
-
-module _ (N : Names) (places : Kind) (K : Kinds) (a b : Sub) where
-  mutual
-    same_denoted : (e : FlatType) → Written_flat e → (T S : TypeScope) (t u : Ty) → Denotes N places K a e T t → Denotes N places K b e S u → t ≡ u
-    same_denoted (Type_use (ref.Scalar s) no_arg) w T S t u d c = d ∙ sym c
-    same_denoted (Tuple_type es) w T S t u d c = d.2 ∙ ap (Made head.Tuple) (all_same_denoted es w T S d.0 c.0 d.1 c.1) ∙ sym c.2
-    same_denoted e w T S t u d c = absurd w
-
-    all_same_denoted : (es : Type_terms Ref BindId) → All_written_flat es → (T S : TypeScope) (ts us : Tys) → All_denote N places K a es T ts → All_denote N places K b es S us → ts ≡ us
-    all_same_denoted no_type w T S none none d c = refl
-    all_same_denoted no_type w T S (more t ts) us d c = absurd d
-    all_same_denoted no_type w T S none (more u us) d c = absurd c
-    all_same_denoted (type_and e es) w T S none us d c = absurd d
-    all_same_denoted (type_and e es) w T S (more t ts) none d c = absurd c
-    all_same_denoted (type_and e es) w T S (more t ts) (more u us) d c = ap (λ x. more x ts) (same_denoted e w.0 T S t u d.0 c.0) ∙ ap (more u) (all_same_denoted es w.1 T S ts us d.1 c.1)
-
-  truth_typed : (c : Bool) (t u x : Ty) (ts : Tys) → Rule N places K (Truth c) t x ts → t ≡ bool_ty
-  truth_typed c t u x none r = r
-  truth_typed c t u x (more y ys) r = absurd r
-
-  one_typed : (v : FlatTerm) (n : ℕ) (T : TypeScope) → One_type v n → Typed N places v n T K a → Typed N places v n T K b → (is_free false v n n ≡ false → b n ≡ a n) → b n ≡ a n
-  one_typed (Strict (Declared e) mark ts) n T o ta tb k = sym (same_denoted e o T T (a n) (b n) ta.2 tb.2)
-  one_typed (Strict (Truth c) mark ts) n T o ta tb k = truth_typed c (b n) (b n) (b n) _ tb.1 ∙ sym (truth_typed c (a n) (a n) (a n) _ ta.1)
-  one_typed v n T o ta tb k = k o
 
 -- the value's node is none of the name's
 behind_name : (lo : ℕ) → is_within lo 1 (lo + 1) ≡ false
@@ -331,43 +304,53 @@ module _ (N : Names) (types : Sub) (home : ℕ → ℕ) (K : Kinds) (places : Ki
             by_form (inl f) = inl (fresh, f)
             by_form (inr c) = inr (inr c)
 
-  -- ---- of other data without arrays
+  -- ---- of other data
 
-  module _ (Numbers : Free → Type 0) (x : BindId) (v : FlatTerm) (lo : ℕ) (scope : Scope) (T : TypeScope) (st : State) (w : Done Scope) (R : Definition_ran [] x v lo scope st w) (before : Before N types home lo Numbers) (plain : home x.0 ≡ lo) (t1 : types lo ≡ types (lo + 1)) (no_arrays : Flat_type (types lo)) (other : types lo ≡ i64_ty → ⊥) (pv : Plain_term types home K places N v (lo + 1)) (tv : Typed N places v (lo + 1) T K types) (known : Known_here Numbers scope T) where
-    abbrev flat_there : Size
-    flat_there = flat (types lo)
+  -- what a value says, whose sizes are told
+  module _ (Numbers : Free → Type 0) (lo : ℕ) (scope : Scope) (T : TypeScope) (st : State) (before : Before N types home lo Numbers) (known : Known_here Numbers scope T) (part : Done Part) (u : Done Size) where
+    abbrev Value_here : FlatTerm → Size → Type 0
+    Value_here v t = Meets N types home (Known_before Numbers) None_there scope v (lo + 1) (lo + 1 + numbers v) st t u.state
 
-    flat_value : Meets N types home (Known_before Numbers) None_there scope v (lo + 1) (lo + 1 + numbers v) st R.value.result R.value.state
-    flat_value = alone N types home K places v (term_part N types home K places data_places v) (Known_before Numbers) None_there scope T (lo + 1) st R.part R.value pv tv known (known_elsewhere N types home lo Numbers before (lo + 1) (lo + 1 + numbers v) (omega arith)) R.part_is R.value_is
+    flat_sizes : (v : FlatTerm) → Value_here v u.result → Flat_type (types (lo + 1)) → Each (Scoped (Known_before Numbers)) 0 u.result
+    flat_sizes v M f = subst (Each (Scoped (Known_before Numbers)) 0) (sym (flat_is u.result M.says.formed (subst Flat_type (sym M.typed) f))) (flat_each (Scoped (Known_before Numbers)) 0 (erased u.result))
 
-    flat_value_is : R.value.result ≡ flat_there
-    flat_value_is = flat_is R.value.result flat_value.says.formed (subst Flat_type (t1 ∙ sym flat_value.typed) no_arrays) ∙ ap flat (flat_value.typed ∙ sym t1)
+    declared_sizes : (e : FlatType) (mark : Place) (ts : Terms Ref BindId) → Value_here (Strict (Declared e) mark ts) u.result → Written_whole e → Plain_term types home K places N (Strict (Declared e) mark ts) (lo + 1) → Typed N places (Strict (Declared e) mark ts) (lo + 1) T K types → sized N types (Strict (Declared e) mark ts) [] (lo + 1) scope st ≡ Ok part → finished N types (lo + 1) part.result part.state ≡ Ok u → Each (Scoped (Known_before Numbers)) 0 u.result
+    declared_sizes e mark ts M w pv tv q f =
+        let E = known_elsewhere N types home lo Numbers before (lo + 1) (lo + 1 + numbers (Strict (Declared e) mark ts)) (omega arith) in
+        let D = declared_is N types home (Known_before Numbers) e mark (lo + 1) scope ts None_there (lo + 1 + numbers (Strict (Declared e) mark ts)) st part u (one_term N types home (Known_before Numbers) e mark (lo + 1) scope K places T ts tv) E
+        (term_part N types home K places data_places (Strict (Declared e) mark ts) (Known_before Numbers) None_there scope T (lo + 1) st part pv tv known E q) q f in
+        subst (Each (Scoped (Known_before Numbers)) 0) (sym D.is) (whole_written N places K types T (Known_before Numbers) (λ c. inl tt) D.results D.blank e w (sizes_written N types home K places (Known_before Numbers) (Known_before Numbers) None_there (λ d i. i) e scope T (types (lo + 1)) known tv.2) D.found 0 (types (lo + 1)) tv.2 (subst Formed D.is M.says.formed) (ap erased (sym D.is) ∙ M.typed))
 
-    flat_meets : Meets N types home (Known_before Numbers) None_there scope v (lo + 1) (lo + 1 + numbers v) st flat_there R.value.state
-    flat_meets = subst (λ t. Meets N types home (Known_before Numbers) None_there scope v (lo + 1) (lo + 1 + numbers v) st t R.value.state) flat_value_is flat_value
+    told_sizes : (v : FlatTerm) → Value_here v u.result → Sizes_told v (types (lo + 1)) → Plain_term types home K places N v (lo + 1) → Typed N places v (lo + 1) T K types → sized N types v [] (lo + 1) scope st ≡ Ok part → finished N types (lo + 1) part.result part.state ≡ Ok u → Each (Scoped (Known_before Numbers)) 0 u.result
+    told_sizes (Strict (Declared e) mark ts) M o pv tv q f = declared_sizes e mark ts M o pv tv q f
+    told_sizes v M o pv tv q f = flat_sizes v M o
 
-    flat_says : (In : Free → Type 0) → Says In None_there flat_there
-    flat_says In = record { sizes = flat_each (Scoped In) 0 (types lo); variables = flat_holes None_there (types lo) no_arrays; formed = flat_formed (types lo) no_arrays }
+  module _ (Numbers : Free → Type 0) (x : BindId) (v : FlatTerm) (lo : ℕ) (scope : Scope) (T : TypeScope) (st : State) (w : Done Scope) (R : Definition_ran [] x v lo scope st w) (before : Before N types home lo Numbers) (plain : home x.0 ≡ lo) (t1 : types lo ≡ types (lo + 1)) (other : types lo ≡ i64_ty → ⊥) (told : Sizes_told v (types lo)) (pv : Plain_term types home K places N v (lo + 1)) (tv : Typed N places v (lo + 1) T K types) (known : Known_here Numbers scope T) where
+    data_value : Meets N types home (Known_before Numbers) None_there scope v (lo + 1) (lo + 1 + numbers v) st R.value.result R.value.state
+    data_value = alone N types home K places v (term_part N types home K places data_places v) (Known_before Numbers) None_there scope T (lo + 1) st R.part R.value pv tv known (known_elsewhere N types home lo Numbers before (lo + 1) (lo + 1 + numbers v) (omega arith)) R.part_is R.value_is
 
-    flat_no_number : is_i64_size flat_there ≡ true → ⊥
-    flat_no_number e = other (i64_ty_is (types lo) (ap is_i64_ty (sym (flat_erased (types lo))) ∙ sym (number_typed flat_there (flat_formed (types lo) no_arrays)) ∙ e))
+    data_says : Says (Known_before Numbers) None_there R.value.result
+    data_says = record { sizes = told_sizes Numbers lo scope T st before known R.part R.value v data_value (subst (Sizes_told v) t1 told) pv tv R.part_is R.value_is; variables = data_value.says.variables; formed = data_value.says.formed }
 
-    flat_not_itself : (d : Free) → Numbers d → d ≡ Name x.0 → ⊥
-    flat_not_itself d i e = before.outside d i lo (lo + 1) (omega arith) (subst (In_nodes N types home lo (lo + 1)) (sym e) (omega (arith, plain), omega (arith, plain)))
+    data_no_number : is_i64_size R.value.result ≡ true → ⊥
+    data_no_number e = other (t1 ∙ i64_ty_is (types (lo + 1)) (ap is_i64_ty (sym data_value.typed) ∙ sym (number_typed R.value.result data_value.says.formed) ∙ e))
 
-    flat_behind : (uses : Uses) → ((u : Ty) → uses K types u → u ≡ types lo) → Behind Numbers [] x v lo scope T st w R before plain t1 flat_there flat_meets flat_value_is (flat_says (Known_before Numbers)) Numbers uses
-    flat_behind uses same = record {
+    data_not_itself : (d : Free) → Numbers d → d ≡ Name x.0 → ⊥
+    data_not_itself d i e = before.outside d i lo (lo + 1) (omega arith) (subst (In_nodes N types home lo (lo + 1)) (sym e) (omega (arith, plain), omega (arith, plain)))
+
+    data_behind : (uses : Uses) → ((u : Ty) → uses K types u → u ≡ types lo) → Behind Numbers [] x v lo scope T st w R before plain t1 R.value.result data_value refl data_says Numbers uses
+    data_behind uses same = record {
       before_next = record { no_slot = before.no_slot; outside = λ d i from hi l o. before.outside d i from hi (omega (arith, l)) o };
-      known = known_general N types K places (Known_before Numbers) None_there home x flat_there scope T uses (flat_says (Known_before Numbers)) (flat_says (Known_before Numbers)).variables (flat_meets.typed ∙ sym t1 ∙ ap types (sym plain)) (λ u a. inr (inr (same u a ∙ ap types (sym plain)))) (λ z. absurd (flat_no_number z)) known;
-      judged = λ s G here J. judged_general N types K places (Known_before Numbers) None_there home x flat_there scope s lo here (hole_as None_there Any_variable (λ a i. tt) flat_there (flat_says (Known_before Numbers)).variables) (λ a. true) G J.sizes J.schemes J.none_open (λ d i. finds G J d i) J.finds_types;
+      known = known_general N types K places (Known_before Numbers) None_there home x R.value.result scope T uses data_says data_says.variables (data_value.typed ∙ sym t1 ∙ ap types (sym plain)) (λ u a. inr (inr (same u a ∙ ap types (sym plain)))) (λ z. absurd (data_no_number z)) known;
+      judged = λ s G here J. judged_general N types K places (Known_before Numbers) None_there home x R.value.result scope s lo here (hole_as None_there Any_variable (λ a i. tt) R.value.result data_says.variables) (λ a. true) G J.sizes J.schemes J.none_open (λ d i. finds G J d i) J.finds_types;
     }
       where
-        finds : (G : Context) → Judged_here Numbers scope G → (d : Free) → Known_before Numbers d → ((d ≡ Name x.0 → ⊥) × (G.finds d ≡ true)) ⊎ (((d ≡ Name x.0) × (is_i64_size flat_there ≡ true)) ⊎ Is_const d)
+        finds : (G : Context) → Judged_here Numbers scope G → (d : Free) → Known_before Numbers d → ((d ≡ Name x.0 → ⊥) × (G.finds d ≡ true)) ⊎ (((d ≡ Name x.0) × (is_i64_size R.value.result ≡ true)) ⊎ Is_const d)
         finds G J d (inl i) = inr (inr i)
         finds G J d (inr i) = by_form (J.finds d (inr i))
           where
-            by_form : (G.finds d ≡ true) ⊎ Is_const d → ((d ≡ Name x.0 → ⊥) × (G.finds d ≡ true)) ⊎ (((d ≡ Name x.0) × (is_i64_size flat_there ≡ true)) ⊎ Is_const d)
-            by_form (inl f) = inl (flat_not_itself d i, f)
+            by_form : (G.finds d ≡ true) ⊎ Is_const d → ((d ≡ Name x.0 → ⊥) × (G.finds d ≡ true)) ⊎ (((d ≡ Name x.0) × (is_i64_size R.value.result ≡ true)) ⊎ Is_const d)
+            by_form (inl f) = inl (data_not_itself d i, f)
             by_form (inr c) = inr (inr c)
 
   -- ---- definitions in a row
@@ -387,13 +370,13 @@ module _ (N : Names) (types : Sub) (home : ℕ → ℕ) (K : Kinds) (places : Ki
       (Later Numbers x v lo scope T st x1.first R before plain t1 f.0 f.1 tv known) uses (number_behind Numbers x v lo scope T st x1.first R before plain t1 f.0 f.1 tv known uses) ds rest t.1 pd z x1.rest
   of_number (p ∷ hd) x v ds rest Numbers lo scope T st z before plain f pd t known q = absurd f
 
-  of_flat : (hd : List (Parameter BindId)) (x : BindId) (v : FlatTerm) (ds : List Defined) → Row_law ds → (Numbers : Free → Type 0) (lo : ℕ) (scope : Scope) (T : TypeScope) (st : State) (z : Done Scope) → Before N types home lo Numbers → home x.0 ≡ lo → Flat_definition types home K places N hd v lo → Plain_definitions types home K places N ds (lo + (1 + numbers v))
+  of_data : (hd : List (Parameter BindId)) (x : BindId) (v : FlatTerm) (ds : List Defined) → Row_law ds → (Numbers : Free → Type 0) (lo : ℕ) (scope : Scope) (T : TypeScope) (st : State) (z : Done Scope) → Before N types home lo Numbers → home x.0 ≡ lo → Data_definition types home K places N hd v lo → Plain_definitions types home K places N ds (lo + (1 + numbers v))
       → Definitions_typed N places (a_definition hd x v ∷ ds) lo T K types → Known_here Numbers scope T → definitions_sized N types (a_definition hd x v ∷ ds) lo scope st ≡ Ok z → Row_meets Numbers (a_definition hd x v ∷ ds) lo scope st z.state
-  of_flat [] x v ds rest Numbers lo scope T st z before plain f pd t known q =
+  of_data [] x v ds rest Numbers lo scope T st z before plain f pd t known q =
       let x1 = then_ok (definition_sized N types (a_definition [] x v) lo scope st) q in
       let R = definition_ran [] x v lo scope st x1.first x1.done in
-      row_meets Numbers [] x v lo scope T st x1.first R before plain t1 (flat_there Numbers x v lo scope T st x1.first R before plain t1 f.0 f.1 f.3 tv known) (flat_meets Numbers x v lo scope T st x1.first R before plain t1 f.0 f.1 f.3 tv known) (flat_value_is Numbers x v lo scope T st x1.first R before plain t1 f.0 f.1 f.3 tv known) (flat_says Numbers x v lo scope T st x1.first R before plain t1 f.0 f.1 f.3 tv known (Known_before Numbers))
-      Numbers uses (flat_behind Numbers x v lo scope T st x1.first R before plain t1 f.0 f.1 f.3 tv known uses same) ds rest t.1 pd z x1.rest
+      row_meets Numbers [] x v lo scope T st x1.first R before plain t1 R.value.result (data_value Numbers x v lo scope T st x1.first R before plain t1 f.0 f.2 f.3 tv known) refl (data_says Numbers x v lo scope T st x1.first R before plain t1 f.0 f.2 f.3 tv known)
+      Numbers uses (data_behind Numbers x v lo scope T st x1.first R before plain t1 f.0 f.2 f.3 tv known uses same) ds rest t.1 pd z x1.rest
     where
       tv : Typed N places v (lo + 1) T K types
       tv = t.0.0.0.1
@@ -405,8 +388,8 @@ module _ (N : Names) (types : Sub) (home : ℕ → ℕ) (K : Kinds) (places : Ki
       uses = Reused places (definition_scheme N places (a_definition [] x v) lo T) lo
 
       same : (u : Ty) → uses K types u → u ≡ types lo
-      same u a = a.2.1 ∙ a.2.0.typed.1 ∙ one_typed N places K types a.2.0.other v (lo + 1) T f.2 tv a.2.0.typed.0.1 (λ k. a.2.0.kept (lo + 1) (omega arith) (let n = numbers_some v in omega (arith, n)) (ap (λ c. c || is_free false v (lo + 1) (lo + 1)) (behind_name lo) ∙ k)) ∙ sym t1
-  of_flat (p ∷ hd) x v ds rest Numbers lo scope T st z before plain f pd t known q = absurd f
+      same u a = a.2.1 ∙ a.2.0.typed.1 ∙ one_typed N places K types a.2.0.other v (lo + 1) T f.1 tv a.2.0.typed.0.1 (λ k. a.2.0.kept (lo + 1) (omega arith) (let n = numbers_some v in omega (arith, n)) (ap (λ c. c || is_free false v (lo + 1) (lo + 1)) (behind_name lo) ∙ k)) ∙ sym t1
+  of_data (p ∷ hd) x v ds rest Numbers lo scope T st z before plain f pd t known q = absurd f
 
   one_definition : (hd : List (Parameter BindId)) (x : BindId) (v : FlatTerm) (ds : List Defined) → Row_law ds → Row_law (a_definition hd x v ∷ ds)
   one_definition hd x v ds rest Numbers lo scope T st z before p t known q = by_kind p.0.1
@@ -434,10 +417,10 @@ module _ (N : Names) (types : Sub) (home : ℕ → ℕ) (K : Kinds) (places : Ki
           arrow : (u : Ty) → uses K types u → (a : Ty) × (c : Ty) × (u ≡ fun_ty a c)
           arrow u a = let y = lambda_arrow N types home K places a.2.0.other v (lo + 1) (with_parameters hd a.0 T) f.0 a.2.0.typed.0.1 in (y.0, y.1, a.2.1 ∙ a.2.0.typed.1 ∙ y.2)
 
-      by_kind : Function_definition types home K places N hd v lo ⊎ (Number_definition types home K places N hd v lo ⊎ Flat_definition types home K places N hd v lo) → Row_meets Numbers (a_definition hd x v ∷ ds) lo scope st z.state
+      by_kind : Function_definition types home K places N hd v lo ⊎ (Number_definition types home K places N hd v lo ⊎ Data_definition types home K places N hd v lo) → Row_meets Numbers (a_definition hd x v ∷ ds) lo scope st z.state
       by_kind (inl f) = of_function f
       by_kind (inr (inl f)) = of_number hd x v ds rest Numbers lo scope T st z before p.0.0 f p.1 t known q
-      by_kind (inr (inr f)) = of_flat hd x v ds rest Numbers lo scope T st z before p.0.0 f p.1 t known q
+      by_kind (inr (inr f)) = of_data hd x v ds rest Numbers lo scope T st z before p.0.0 f p.1 t known q
 
   any_definition : (p : FlatPattern) (ps : List (Parameter BindId)) (v : FlatTerm) (ds : List Defined) → Row_law ds → Row_law (record { name = p; parameters = ps; value = v } ∷ ds)
   any_definition (Bound_pattern x) ps v ds rest = one_definition ps x v ds rest

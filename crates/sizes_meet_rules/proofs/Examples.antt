@@ -8,7 +8,7 @@ use Rattle.fut_scalar.specs.declared.scalar.IntType.TheVariants as int
 use Rattle.fut_flat.specs.declared.prim.Primitive.{Primitive}
 use Rattle.fut_flat.specs.declared.prim.Primitive.TheVariants as prim
 use Rattle.fut_flat.specs.declared.prim.Ref.TheVariants as ref
-use Rattle.fut_flat.specs.Terms.{Size_use, Array_type, Type_use, no_arg, Size_parameter, Typed_pattern, Bound_pattern, no_pattern, pattern_and, Integer, Range, Use, Strict, Lambda, Apply, Let, no_term, term_and}
+use Rattle.fut_flat.specs.Terms.{Size_use, Size_const, Array_type, Type_use, no_arg, Size_parameter, Typed_pattern, Bound_pattern, no_pattern, pattern_and, Integer, Declared, Array_of, Range, Use, Strict, Lambda, Apply, Let, no_term, term_and}
 use Rattle.fut_flat.specs.Erased.{FlatTerm, FlatPattern}
 use Rattle.fut_types.specs.declared.Kind.TheVariants as kind
 use Rattle.fut_types.specs.Types.{Ty, Sub, fun_ty}
@@ -22,7 +22,7 @@ use Rattle.fut_sizes.specs.Operations.{elements_agree, slice_size, indexed, upda
 use Rattle.fut_sizes.specs.Primitives.{scalar_size, sized_type, prim_size}
 use Rattle.fut_sizes.specs.Programs.{no_state, sizing}
 use Rattle.fut_sizes.specs.Scopes.{nothing, type_of, type_in, instance, instances, used, taken, all_taken, fields_taken, bound_by}
-use Rattle.sized_types.specs.Sizes.{Name, At, Bound, Size, Level, Fun, erased, all_erased, is_free, is_dim, levels, all_levels, replaced, all_replaced, has, some_has, takes, some_takes}
+use Rattle.sized_types.specs.Sizes.{Const, Name, At, Bound, Size, Level, Fun, erased, all_erased, is_free, is_dim, levels, all_levels, replaced, all_replaced, has, some_has, takes, some_takes}
 use Rattle.fut_sizes.specs.Levels.{levels_within, all_levels_within}
 use Rattle.fut_sizes.specs.Sizing.{finished, is_open, some_open, matched, lacking, all_lacking, differing, all_differing, turns_from, pattern_noted, patterns_noted, fields_noted, sized, all_sized, turns_sized, condition_sized, right_sized, inner_sized}
 use Rattle.fut_sizes.specs.WrittenSizes.{part_of, changed_part, has_sizes, all_have_sizes, fields_have_sizes, with_sizes, all_with_sizes, fields_with_sizes, ascribed, coerced, coercion, parameter_size, declared}
@@ -269,7 +269,7 @@ map_plain : Plain_term map_types map_homes K kind.Data N mapping 0
 unfolding Formed_type Formed_types Flat_type Flat_types rank least
 map_plain = (
   (refl, tt, omega arith, tt),
-  (inl (omega arith), (inl (omega arith, (inr (refl, ((tt, tt), inl (omega arith)), tt), ((refl, tt, omega arith, tt), (inl (omega arith), (inl (omega arith, tt), inl refl))))), (inl (omega arith), (inl (omega arith, tt), inl refl)))),
+  (inl (omega arith), (inl (omega arith, (inr (inl (refl, ((tt, tt), inl (omega arith)), tt)), ((refl, tt, omega arith, tt), (inl (omega arith), (inl (omega arith, tt), inl refl))))), (inl (omega arith), (inl (omega arith, tt), inl refl)))),
 )
 
 abbrev map_part : Answer (Done Part)
@@ -284,6 +284,35 @@ its_map = refl
 
 map_rules : (u : Done Size) → Typed N kind.Data mapping 0 no_types K map_types → map_size ≡ Ok u → Sized N map_types u.state.nodes map_homes mapping 0 nothing_known
 map_rules u t e = let x = then_ok map_part e in (sizing_meets_rules N map_types map_homes K kind.Data mapping 0 no_state x.first u (omega arith) map_plain t x.done x.rest).0
+
+-- ---- a lambda whose parameter is a row: `\xss -> map (\r -> reverse r) xss`
+
+abbrev by_rows : FlatTerm
+by_rows = Lambda (pattern_and (Bound_pattern (b 4)) no_pattern) (Apply (Apply (primitive prim.Map) (Lambda (pattern_and (Bound_pattern (b 5)) no_pattern) (Apply (primitive prim.Reverse) (named 5)))) (named 4))
+
+-- 2 is the application of `map`, 5 the inner lambda, 7 the application of `reverse`
+abbrev row_types : Sub
+row_types n = cond (is_any (0 ∷ 3 ∷ []) n) (fun_ty rows rows) (cond (is_any (1 ∷ 2 ∷ 10 ∷ []) n) rows (cond (nat_eq n 4) (fun_ty (fun_ty (array_ty i64_ty) (array_ty i64_ty)) (fun_ty rows rows)) (cond (is_any (5 ∷ 8 ∷ []) n) (fun_ty (array_ty i64_ty) (array_ty i64_ty)) (array_ty i64_ty))))
+
+abbrev row_homes : ℕ → ℕ
+row_homes n = cond (nat_eq n 5) 6 1
+
+rows_plain : Plain_term row_types row_homes K kind.Data N by_rows 0
+unfolding Formed_type Formed_types Flat_type Flat_types rank least
+rows_plain = ((refl, tt, omega arith, tt), (inl (omega arith), (inl (omega arith, (inr (inr (refl, omega arith, tt)), ((refl, tt, omega arith, tt), (inl (omega arith), (inl (omega arith, tt), inl refl))))), inl refl)))
+
+abbrev rows_part : Answer (Done Part)
+rows_part = sized N row_types by_rows [] 0 nothing no_state
+
+abbrev rows_size : Answer (Done Size)
+rows_size = then_do rows_part (λ d. finished N row_types 0 d.result d.state)
+
+its_rows : then_do rows_size (λ d. Ok d.result) ≡ Ok (Fun 2 (Level (Bound 0 0) (Level (Bound 0 1) (scalar_size (scalar.Int int.I64)))) (Level (Bound 0 0) (Level (Bound 0 1) (scalar_size (scalar.Int int.I64)))))
+unfolding agree all_agree kept all_kept leaving type_levels all_type_levels of_type of_types all_settled parts_settled data_met functions_met all_matched applied collected all_collected sizes_in function_size chosen_in quantified closed filled all_filled read all_read opened_inside compared all_compared meet all_meet elements_agree slice_size indexed updated operation sized_type prim_size sizing type_of type_in instance instances used taken all_taken fields_taken bound_by erased all_erased is_free is_dim levels all_levels levels_within all_levels_within replaced all_replaced has some_has takes some_takes is_open some_open matched lacking all_lacking differing all_differing turns_from pattern_noted patterns_noted fields_noted sized all_sized turns_sized condition_sized right_sized inner_sized part_of changed_part has_sizes all_have_sizes fields_have_sizes with_sizes all_with_sizes fields_with_sizes ascribed coerced coercion parameter_size declared
+its_rows = refl
+
+rows_rules : (u : Done Size) → Typed N kind.Data by_rows 0 no_types K row_types → rows_size ≡ Ok u → Sized N row_types u.state.nodes row_homes by_rows 0 nothing_known
+rows_rules u t e = let x = then_ok rows_part e in (sizing_meets_rules N row_types row_homes K kind.Data by_rows 0 no_state x.first u (omega arith) rows_plain t x.done x.rest).0
 
 -- ---- a definition that is a number, and one that takes it as a size: `def n = 10` and `def main x = 0..<n`
 
@@ -338,7 +367,7 @@ unfolding Formed_type Formed_types Flat_type Flat_types rank least
 mapped_plain = (
   (refl, inl (tt, (tt, tt), tt, headed_none mapped_types mapped_homes K kind.Data N itself tt 1, ((refl, tt, omega arith, tt), inl refl))),
   (
-    (refl, inl (tt, (tt, tt), tt, headed_none mapped_types mapped_homes K kind.Data N map_itself tt 5, ((refl, tt, omega arith, tt), (inl (omega arith), (inl (omega arith, (inr (refl, ((tt, tt), inl (omega arith)), tt), inl refl)), (inl (omega arith), (inl (omega arith, tt), inl refl))))))),
+    (refl, inl (tt, (tt, tt), tt, headed_none mapped_types mapped_homes K kind.Data N map_itself tt 5, ((refl, tt, omega arith, tt), (inl (omega arith), (inl (omega arith, (inr (inl (refl, ((tt, tt), inl (omega arith)), tt)), inl refl)), (inl (omega arith), (inl (omega arith, tt), inl refl))))))),
     tt,
   ),
 )
@@ -383,7 +412,7 @@ firsts_plain = (
         headed_none first_types first_homes K kind.Data N map_first tt 6,
         (
           (refl, tt, omega arith, tt),
-          (inl (omega arith), (inl (omega arith, (inr (refl, ((tt, tt), inl (omega arith)), tt), (inr (((tt, tt), inl (omega arith)), tt), (inl (omega arith, (refl, refl)), ((scalar.Int int.I64, refl), tt))))), (inl (omega arith), (inl (omega arith, tt), inl refl)))),
+          (inl (omega arith), (inl (omega arith, (inr (inl (refl, ((tt, tt), inl (omega arith)), tt)), (inr (((tt, tt), inl (omega arith)), tt), (inl (omega arith, (refl, refl)), ((scalar.Int int.I64, refl), tt))))), (inl (omega arith), (inl (omega arith, tt), inl refl)))),
         ),
       ),
     ),
@@ -397,3 +426,38 @@ its_firsts = refl
 
 firsts_rules : (nodes : ℕ → Size) → Program_typed N kind.Data firsts K first_types → sizing N first_types firsts ≡ Ok nodes → Program_sized N first_types nodes first_homes firsts
 firsts_rules nodes t e = (program_sizing_meets_rules N first_types first_homes K kind.Data firsts nodes (omega arith) firsts_plain t e).0
+
+-- ---- a definition that is an array: `def xs: [2]i64 = [1, 2]` and `def f y = xs`
+
+abbrev pair : FlatTerm
+pair = Strict (Declared (Array_type (Size_const 2) (Type_use (ref.Scalar (scalar.Int int.I64)) no_arg))) here (term_and (Strict Array_of here (term_and (Strict (Integer 1 None) here no_term) (term_and (Strict (Integer 2 None) here no_term) no_term))) no_term)
+
+abbrev to_pair : FlatTerm
+to_pair = Lambda (pattern_and (Bound_pattern (b 2)) no_pattern) (named 0)
+
+abbrev pairs : List Defined
+pairs = record { name = Bound_pattern (b 0); parameters = []; value = pair } ∷ record { name = Bound_pattern (b 1); parameters = []; value = to_pair } ∷ []
+
+-- 0 to 4 are those of xs, 5 to 8 those of f
+abbrev pair_types : Sub
+pair_types n = cond (is_any (0 ∷ 1 ∷ 2 ∷ 8 ∷ []) n) (array_ty i64_ty) (cond (is_any (5 ∷ 6 ∷ []) n) (fun_ty i64_ty (array_ty i64_ty)) i64_ty)
+
+abbrev pair_homes : ℕ → ℕ
+pair_homes n = cond (nat_eq n 0) 0 (cond (nat_eq n 1) 5 7)
+
+no_number : array_ty i64_ty ≡ i64_ty → ⊥
+no_number e = cc
+
+pairs_plain : Plain_definitions pair_types pair_homes K kind.Data N pairs 0
+unfolding Formed_type Formed_types rank least
+pairs_plain = (
+  (refl, inr (inr (no_number, tt, tt, (tt, ((tt, (((scalar.Int int.I64, refl), tt), (((scalar.Int int.I64, refl), tt), tt))), tt))))),
+  ((refl, inl (tt, (tt, tt), tt, headed_none pair_types pair_homes K kind.Data N to_pair tt 6, ((refl, tt, omega arith, tt), inl refl))), tt),
+)
+
+its_pairs : then_do (sizing N pair_types pairs) (λ s. Ok (s 5)) ≡ Ok (Fun 0 (scalar_size (scalar.Int int.I64)) (Level (At (Const 2)) (scalar_size (scalar.Int int.I64))))
+unfolding agree all_agree kept all_kept leaving type_levels all_type_levels of_type of_types all_settled parts_settled data_met functions_met all_matched applied collected all_collected sizes_in function_size chosen_in quantified closed filled all_filled read all_read opened_inside compared all_compared meet all_meet elements_agree slice_size indexed updated operation sized_type prim_size sizing type_of type_in instance instances used taken all_taken fields_taken bound_by erased all_erased is_free is_dim levels all_levels levels_within all_levels_within replaced all_replaced has some_has takes some_takes is_open some_open matched lacking all_lacking differing all_differing turns_from pattern_noted patterns_noted fields_noted sized all_sized turns_sized condition_sized right_sized inner_sized part_of changed_part has_sizes all_have_sizes fields_have_sizes with_sizes all_with_sizes fields_with_sizes ascribed coerced coercion parameter_size declared
+its_pairs = refl
+
+pairs_rules : (nodes : ℕ → Size) → Program_typed N kind.Data pairs K pair_types → sizing N pair_types pairs ≡ Ok nodes → Program_sized N pair_types nodes pair_homes pairs
+pairs_rules nodes t e = (program_sizing_meets_rules N pair_types pair_homes K kind.Data pairs nodes (omega arith) pairs_plain t e).0

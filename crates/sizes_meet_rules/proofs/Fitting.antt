@@ -20,7 +20,7 @@ use Rattle.sizes_meet_rules.specs.Plain.{Flat_type, Flat_function}
 use Rattle.sizes_meet_rules.proofs.Applying.{Function_size, function_is, read_settled}
 use Rattle.sizes_meet_rules.proofs.Chains.{Gives, Alone, alone_scoped, alone_at, alone_replaced}
 use Rattle.sizes_meet_rules.proofs.Filling.{function_holes, Is_inferred, Nice, Taken_at, Taking, Stays, stays_taken, Agrees, agrees_before, other_variable, typed_taking, now_taken, nothing_filled}
-use Rattle.sizes_meet_rules.proofs.Flat_types.{flat, flats, flat_is, flat_met, flat_each, flat_read, flat_replaced, flat_data, flat_compared}
+use Rattle.sizes_meet_rules.proofs.Flat_types.{flat, flats, flat_is, flat_each, flat_data}
 use Rattle.sizes_meet_rules.proofs.Forming.{data_of}
 use Rattle.sizes_meet_rules.proofs.Meeting.{Then_ok, then_ok, same_ok, refused_ok}
 use Rattle.sizes_meet_rules.proofs.Reading.{found_settled}
@@ -41,11 +41,11 @@ unfoldable pub is_wanted : (Variable → Bool) → (Variable → Bool) → Size 
 is_wanted q e (Fun zero p r) = is_simple q p && is_wanted q e r
 is_wanted q e t = is_simple e t
 
--- a function whose parameters have no arrays, and which chooses no sizes
-abbrev pub Plain_arrows : Size → Type 0
-Plain_arrows (Fun zero q r) = Flat_type (erased q) × Plain_arrows r
-Plain_arrows (Fun (suc k) q r) = ⊥
-Plain_arrows t = Unit {0}
+-- a function that chooses no sizes, and whose parameters are data of these
+abbrev pub Plain_arrows : (Free → Type 0) → Size → Type 0
+Plain_arrows P (Fun zero q r) = (Data q × Each (Alone P) 0 q) × Plain_arrows P r
+Plain_arrows P (Fun (suc k) q r) = ⊥
+Plain_arrows P t = Unit {0}
 
 both_true : (a b : Bool) → a && b ≡ true → (a ≡ true) × (b ≡ true)
 both_true true b e = (refl, e)
@@ -126,23 +126,30 @@ module _ (σ : Found) where
 
 -- ---- data without sizes of frames is matched with what is the same
 
-settled_dims : (w : Way) (at : ℕ) (σ τ : Found) (d e : Free) → w.left_wanted ≡ true → is_slot d ≡ false → is_slot e ≡ false → meet_dims w at (At d) (At e) σ ≡ Ok τ → (d ≡ e) × (τ ≡ σ)
-settled_dims w at σ τ d e l a b q = by_same (is_free d e) refl (sym (ap (λ c. cond c (meet_dim w at (At d) (At e) σ) (meet_dim w at (At e) (At d) σ)) l ∙ ap (λ (x : Free). meet_size w at x (found_size σ e) σ) (found_settled σ d a) ∙ ap (λ (x : Free). meet_size w at d x σ) (found_settled σ e b) ∙ two d e a b) ∙ q)
+settled_dims : (w : Way) (at : ℕ) (σ τ : Found) (d e : Free) → is_slot d ≡ false → is_slot e ≡ false → meet_dims w at (At d) (At e) σ ≡ Ok τ → (d ≡ e) × (τ ≡ σ)
+settled_dims w at σ τ d e a b q = by_way w.left_wanted q
   where
     two : (d e : Free) → is_slot d ≡ false → is_slot e ≡ false → meet_size w at d e σ ≡ cond (is_free d e) (Ok σ) (Err (Mismatch at (At d) (At e)))
     two (Slot m) e a b = absurd (let z : true ≡ false = a in cc)
     two d (Slot m) a b = absurd (let z : true ≡ false = b in cc)
     two d e a b = refl
 
-    by_same : (c : Bool) → is_free d e ≡ c → ◌≡◌ {A = Answer Found} (cond c (Ok σ) (Err (Mismatch at (At d) (At e)))) (Ok τ) → (d ≡ e) × (τ ≡ σ)
-    by_same true f z = (free_same d e f, sym (same_ok z))
-    by_same false f z = refused_ok z
+    by_same : (d e : Free) (c : Bool) → is_free d e ≡ c → ◌≡◌ {A = Answer Found} (cond c (Ok σ) (Err (Mismatch at (At d) (At e)))) (Ok τ) → (d ≡ e) × (τ ≡ σ)
+    by_same d e true f z = (free_same d e f, sym (same_ok z))
+    by_same d e false f z = refused_ok z
 
-module _ (lo at : ℕ) (w : Way) (wanted : w.left_wanted ≡ true) (φ χ : Opened) where
+    one : (d e : Free) → is_slot d ≡ false → is_slot e ≡ false → meet_dim w at (At d) (At e) σ ≡ Ok τ → (d ≡ e) × (τ ≡ σ)
+    one d e a b q = by_same d e (is_free d e) refl (sym (ap (λ (x : Free). meet_size w at x (found_size σ e) σ) (found_settled σ d a) ∙ ap (λ (x : Free). meet_size w at d x σ) (found_settled σ e b) ∙ two d e a b) ∙ q)
+
+    by_way : (c : Bool) → cond c (meet_dim w at (At d) (At e) σ) (meet_dim w at (At e) (At d) σ) ≡ Ok τ → (d ≡ e) × (τ ≡ σ)
+    by_way true q = one d e a b q
+    by_way false q = let r = one e d b a q in (sym r.0, r.1)
+
+module _ (lo at : ℕ) (w : Way) (φ χ : Opened) where
   mutual
     unfolding meet all_meet Each Each_all Data All_data Formed All_formed erased all_erased
 
-    same_met : (x t : Size) (σ τ : Found) → Data x → Data t → Formed x → Formed t → Each (Alone Is_settled) 0 x → Each (Alone Is_settled) 0 t → erased x ≡ erased t → meet lo w at φ x χ t σ ≡ Ok τ → (x ≡ t) × (τ ≡ σ)
+    pub same_met : (x t : Size) (σ τ : Found) → Data x → Data t → Formed x → Formed t → Each (Alone Is_settled) 0 x → Each (Alone Is_settled) 0 t → erased x ≡ erased t → meet lo w at φ x χ t σ ≡ Ok τ → (x ≡ t) × (τ ≡ σ)
     same_met (Open n v u) t σ τ dx dt fx ft sx st z q = absurd dx
     same_met (Fun k p r) t σ τ dx dt fx ft sx st z q = absurd dx
     same_met x (Open n v u) σ τ dx dt fx ft sx st z q = absurd dt
@@ -156,7 +163,7 @@ module _ (lo at : ℕ) (w : Way) (wanted : w.left_wanted ≡ true) (φ χ : Open
     same_met (Level (At d) x) (Level (Bound k i) t) σ τ dx dt fx ft sx st z q = absurd st.0
     same_met (Level (At d) x) (Level (At e) t) σ τ dx dt fx ft sx st z q =
         let r = then_ok (meet_dims w at (At d) (At e) σ) q in
-        let a = settled_dims w at σ r.first d e wanted sx.0 st.0 r.done in
+        let a = settled_dims w at σ r.first d e sx.0 st.0 r.done in
         let b = same_met x t r.first τ dx dt fx ft sx.1 st.1 (let y : Made head.Array (more (erased x) none) ≡ Made head.Array (more (erased t) none) = z in cc) r.rest in
         (ap (λ f. Level (At f) x) a.0 ∙ ap (Level (At e)) b.0, b.1 ∙ a.1)
     same_met (Built h xs) (Hole y) σ τ dx dt fx ft sx st z q = absurd (not_variable y h (all_erased xs) fx.0 (sym z))
@@ -174,7 +181,7 @@ module _ (lo at : ℕ) (w : Way) (wanted : w.left_wanted ≡ true) (φ χ : Open
         let b = all_same_met xs ts r.first τ dx.1 dt.1 fx.1 ft.1 sx.1 st.1 (let w : all_erased xs ≡ all_erased ts = cc in w) r.rest in
         (ap (λ f. size_and f xs) a.0 ∙ ap (size_and t) b.0, b.1 ∙ a.1)
 
-module _ (at : ℕ) (w : Way) (wanted : w.left_wanted ≡ true) where
+module _ (at : ℕ) (w : Way) where
   mutual
     unfolding compared all_compared Each Each_all Data All_data Formed All_formed erased all_erased
 
@@ -192,7 +199,7 @@ module _ (at : ℕ) (w : Way) (wanted : w.left_wanted ≡ true) where
     same_compared (Level (At d) x) (Level (Bound k i) t) σ τ dx dt fx ft sx st z q = absurd st.0
     same_compared (Level (At d) x) (Level (At e) t) σ τ dx dt fx ft sx st z q =
         let r = then_ok (meet_dims w at (At d) (At e) σ) q in
-        let a = settled_dims w at σ r.first d e wanted sx.0 st.0 r.done in
+        let a = settled_dims w at σ r.first d e sx.0 st.0 r.done in
         let b = same_compared x t r.first τ dx dt fx ft sx.1 st.1 (let y : Made head.Array (more (erased x) none) ≡ Made head.Array (more (erased t) none) = z in cc) r.rest in
         (ap (λ f. Level (At f) x) a.0 ∙ ap (Level (At e)) b.0, b.1 ∙ a.1)
     same_compared (Built h xs) (Hole y) σ τ dx dt fx ft sx st z q = absurd (not_variable y h (all_erased xs) fx.0 (sym z))
@@ -270,16 +277,16 @@ module _ (types : Sub) (home : ℕ → ℕ) (K : Kinds) (places : Kind) (data_pl
   function_gives (Made head.Fun (more p (more r none))) (inr h) = (h.0, function_gives r h.1)
   function_gives u (inr h) = absurd h
 
-  pub plain_arrows : (t : Size) → Formed t → HasKind K places (erased t) ⊎ Flat_function types home K places (erased t) → Plain_arrows t
+  pub plain_arrows : (P : Free → Type 0) (t : Size) → Formed t → HasKind K places (erased t) ⊎ Flat_function types home K places (erased t) → Plain_arrows P t
   unfolding Formed erased
-  plain_arrows (Hole v) f o = tt
-  plain_arrows (Open m v u) f o = tt
-  plain_arrows (Level d t) f o = tt
-  plain_arrows (Built h ts) f o = tt
-  plain_arrows (Fun zero p r) f (inl h) = absurd (no_data_function (erased p) (erased r) h)
-  plain_arrows (Fun zero p r) f (inr h) = (h.0, plain_arrows r f.1 h.1)
-  plain_arrows (Fun (suc k) p r) f (inl h) = no_data_function (erased p) (erased r) h
-  plain_arrows (Fun (suc k) p r) f (inr h) = let z = f.4 (no_sizes_flat p f.0 h.0) in omega (arith, z)
+  plain_arrows P (Hole v) f o = tt
+  plain_arrows P (Open m v u) f o = tt
+  plain_arrows P (Level d t) f o = tt
+  plain_arrows P (Built h ts) f o = tt
+  plain_arrows P (Fun zero p r) f (inl h) = absurd (no_data_function (erased p) (erased r) h)
+  plain_arrows P (Fun zero p r) f (inr h) = let z = flat_is p f.0 h.0 in ((subst Data (sym z) (flat_data (erased p)), subst (Each (Alone P) 0) (sym z) (flat_each (Alone P) 0 (erased p))), plain_arrows P r f.1 h.1)
+  plain_arrows P (Fun (suc k) p r) f (inl h) = no_data_function (erased p) (erased r) h
+  plain_arrows P (Fun (suc k) p r) f (inr h) = let z = f.4 (no_sizes_flat p f.0 h.0) in omega (arith, z)
 
 -- ---- a lambda is matched
 
@@ -288,7 +295,7 @@ pub record Lambda_says (P : Free → Type 0) (Vars : Variable → Type 0) (i : �
   pub formed : Formed t
   pub sizes : Each (Scoped P) i t
   pub variables : Each_hole Vars t
-  pub arrows : Plain_arrows t
+  pub arrows : Plain_arrows P t
 
 module _ (n : ℕ) (types : Variable → Ty) (P : Free → Type 0) (settled : (d : Free) → P d → is_slot d ≡ false) (Vars : Variable → Type 0) (K : Kinds) where
   abbrev Nice_here : Variable → Size → Type 0
@@ -368,7 +375,7 @@ module _ (n : ℕ) (types : Variable → Ty) (P : Free → Type 0) (settled : (d
     result_taken : Taken_here σ v → meet lo w at φ (σ.type n v (types v)) χ t σ ≡ Ok τ → Function_met σ τ (Hole v) t
     unfolding has_hole function_holes with_types
     result_taken h q =
-        let x = same_met lo at w wanted φ χ (σ.type n v (types v)) t σ τ h.is_data is_data h.formed says.formed (each_alone P Is_settled settled (σ.type n v (types v)) 0 (data_alone P (σ.type n v (types v)) h.is_data h.sizes)) it_settled (h.typed ∙ sym typed) q in
+        let x = same_met lo at w φ χ (σ.type n v (types v)) t σ τ h.is_data is_data h.formed says.formed (each_alone P Is_settled settled (σ.type n v (types v)) 0 (data_alone P (σ.type n v (types v)) h.is_data h.sizes)) it_settled (h.typed ∙ sym typed) q in
         subst (λ (y : Found). Function_met σ y (Hole v) t) (sym x.1) (record {
           taking = taking;
           stays = λ x y. refl;
@@ -382,17 +389,19 @@ module _ (n : ℕ) (types : Variable → Ty) (P : Free → Type 0) (settled : (d
 
   -- a parameter or a scalar result
   pub record Simple_value (σ : Found) (p x : Size) : Type 0 where
+    pub is_data : Data x
     pub formed : Formed x
+    pub alone : Each (Alone P) 0 x
     pub typed : erased x ≡ erased (instance n types p)
     pub is : (Θ : Variable → Size) → Agrees n types P settled Vars Θ σ → with_types Θ p ≡ x
     pub here : (v : Variable) → has_hole p v ≡ true → Taken_here σ v
 
   pub simple_value : (q : Variable → Bool) (g : ℕ → Dim → Dim) (j : ℕ) (p : Size) (before σ : Found) → is_simple q p ≡ true → Each_hole Is_inferred p → before.type ≡ σ.type → ((v : Variable) → q v ≡ true → Taken_here σ v) → Simple_value σ p (read before (replaced g j (instance n types p)))
-  unfolding is_simple Each_hole read all_read replaced all_replaced instance instances with_types all_with_types has_hole some_hole Formed All_formed erased all_erased
+  unfolding is_simple Each_hole Each Each_all Data All_data read all_read replaced all_replaced instance instances with_types all_with_types has_hole some_hole Formed All_formed erased all_erased
   simple_value q g j (Hole v) before σ e i same taken =
       let h = taken v e in
-      subst (λ x. Simple_value σ (Hole v) x) (sym (ap (λ (f : ℕ → Variable → Ty → Size). f n v (types v)) same)) (record { formed = h.formed; typed = h.typed; is = λ Θ a. sym (a v h); here = λ y z. subst (Taken_here σ) (other_variable n types P settled Vars v y i z) h })
-  simple_value q g j (Built (head.Scalar s) no_size) before σ e i same taken = record { formed = (tt, tt); typed = refl; is = λ Θ a. refl; here = λ y z. absurd (let w : false ≡ true = z in cc) }
+      subst (λ x. Simple_value σ (Hole v) x) (sym (ap (λ (f : ℕ → Variable → Ty → Size). f n v (types v)) same)) (record { is_data = h.is_data; formed = h.formed; alone = data_alone P (σ.type n v (types v)) h.is_data h.sizes; typed = h.typed; is = λ Θ a. sym (a v h); here = λ y z. subst (Taken_here σ) (other_variable n types P settled Vars v y i z) h })
+  simple_value q g j (Built (head.Scalar s) no_size) before σ e i same taken = record { is_data = tt; formed = (tt, tt); alone = tt; typed = refl; is = λ Θ a. refl; here = λ y z. absurd (let w : false ≡ true = z in cc) }
   simple_value q g j (Built (head.Scalar s) (size_and t ts)) before σ e i same taken = absurd (let w : false ≡ true = e in cc)
   simple_value q g j (Built head.Array ts) before σ e i same taken = absurd (let w : false ≡ true = e in cc)
   simple_value q g j (Built head.Tuple ts) before σ e i same taken = absurd (let w : false ≡ true = e in cc)
@@ -460,9 +469,10 @@ module _ (n : ℕ) (types : Variable → Ty) (P : Free → Type 0) (settled : (d
 
     -- a parameter has the sized type that is wanted
     record Parameter_met (σ : Found) (p y x : Size) : Type 0 where
-      is : (Θ : Variable → Size) → Agrees n types P settled Vars Θ σ → with_types Θ p ≡ x
+      value : Size
+      is : (Θ : Variable → Size) → Agrees n types P settled Vars Θ σ → with_types Θ p ≡ value
       here : (v : Variable) → has_hole p v ≡ true → Taken_here σ v
-      met : (w : Way) (φ χ : Opened) (m : ℕ) → meet lo w at φ y χ x (counted m σ) ≡ Ok (counted m σ)
+      met : (w : Way) (φ χ : Opened) (m : ℕ) (τ : Found) → meet lo w at φ y χ x (counted m σ) ≡ Ok τ → (value ≡ x) × (τ ≡ counted m σ)
 
     -- and what is given is matched behind it
     arrow_with : (p r y z x s : Size) (b : Bool) (φ χ : Opened) (i : ℕ) (σ τ : Found) → Lambda_says P Vars i (Fun zero x s) → Parameter_met σ p y x → Unknown_frames χ i
@@ -476,15 +486,12 @@ module _ (n : ℕ) (types : Variable → Ty) (P : Free → Type 0) (settled : (d
       later = let l = R.later in omega (arith, l);
       maker = R.maker;
       here = λ v k. by_place v (has_hole p v) refl k;
-      is = λ Θ a. ap (λ k. Fun zero k (with_types Θ r)) (V.is Θ (agrees_before n types P settled Vars Θ σ τ R.stays a)) ∙ ap (Fun zero x) (R.is Θ a);
-      alone = (subst (Each (Alone P) 1) (sym flat_x) (flat_each (Alone P) 1 (erased x)), alone_at P s 0 1 R.alone);
+      is = λ Θ a. ap (λ k. Fun zero k (with_types Θ r)) (V.is Θ (agrees_before n types P settled Vars Θ σ τ R.stays a) ∙ matched.0) ∙ ap (Fun zero x) (R.is Θ a);
+      alone = (alone_at P x 0 1 says.arrows.0.1, alone_at P s 0 1 R.alone);
     }
       where
         way : Way
         way = wanted_way b regular
-
-        flat_x : x ≡ flat (erased x)
-        flat_x = flat_is x says.formed.0 says.arrows.0
 
         next : Found
         next = counted (frame_numbers zero zero z s) σ
@@ -498,12 +505,12 @@ module _ (n : ℕ) (types : Variable → Ty) (P : Free → Type 0) (settled : (d
         X : Then_ok (meet lo (turned way) at (inside left φ) y (inside right χ) x next) (λ found. cond (is_irregular way (read found (in_opened (inside left φ) z)) (read found (in_opened (inside right χ) s))) (Err (Irregular at)) (meet lo (to_result way) at (inside left φ) z (inside right χ) s found)) τ
         X = then_ok (meet lo (turned way) at (inside left φ) y (inside right χ) x next) e
 
-        matched : X.first ≡ next
-        matched = same_ok (sym X.done ∙ V.met (turned way) (inside left φ) (inside right χ) (frame_numbers zero zero z s))
+        matched : (V.value ≡ x) × (X.first ≡ next)
+        matched = V.met (turned way) (inside left φ) (inside right χ) (frame_numbers zero zero z s) X.first X.done
 
         tested : (regular ≡ true → has is_unknown (read next (in_opened (inside right χ) s)) ≡ false) × (meet lo (to_result way) at (inside left φ) z (inside right χ) s next ≡ Ok τ)
         tested = irregular_ok regular (has is_unknown (read next (in_opened (inside right χ) s))) at (meet lo (to_result way) at (inside left φ) z (inside right χ) s next) τ
-            (ap (λ (found : Found). cond (is_irregular way (read found (in_opened (inside left φ) z)) (read found (in_opened (inside right χ) s))) (Err (Irregular at)) (meet lo (to_result way) at (inside left φ) z (inside right χ) s found)) (sym matched) ∙ X.rest)
+            (ap (λ (found : Found). cond (is_irregular way (read found (in_opened (inside left φ) z)) (read found (in_opened (inside right χ) s))) (Err (Irregular at)) (meet lo (to_result way) at (inside left φ) z (inside right χ) s found)) (sym matched.1) ∙ X.rest)
 
         R : Function_met next τ r s
         R = rest (inside left φ) (inside right χ) (frame_numbers zero zero z s) (found_unknown lo (past_frame σ.next zero z) (σ.next + zero) χ i frames) tested.0 tested.1
@@ -521,17 +528,13 @@ module _ (n : ℕ) (types : Variable → Ty) (P : Free → Type 0) (settled : (d
         V : Simple_value σ p (read before (replaced g (suc j) (instance n types p)))
         V = simple_value q g (suc j) p before σ sp ip same taken
 
-        flat_x : x ≡ flat (erased x)
-        flat_x = flat_is x says.formed.0 says.arrows.0
-
-        flat_wanted : read before (replaced g (suc j) (instance n types p)) ≡ flat (erased x)
-        flat_wanted = flat_is (read before (replaced g (suc j) (instance n types p))) V.formed (subst Flat_type (tx ∙ sym V.typed) says.arrows.0) ∙ ap flat (V.typed ∙ sym tx)
-
         parameter : Parameter_met σ p (read before (replaced g (suc j) (instance n types p))) x
         parameter = record {
-          is = λ Θ a. V.is Θ a ∙ flat_wanted ∙ sym flat_x;
+          value = read before (replaced g (suc j) (instance n types p));
+          is = V.is;
           here = V.here;
-          met = λ w φ' χ' m. ap (λ y. meet lo w at φ' y χ' x (counted m σ)) flat_wanted ∙ ap (λ y. meet lo w at φ' (flat (erased x)) χ' y (counted m σ)) flat_x ∙ flat_met lo at w φ' χ' (erased x) (counted m σ);
+          met = λ w φ' χ' m υ y. same_met lo at w φ' χ' (read before (replaced g (suc j) (instance n types p))) x (counted m σ) υ V.is_data says.arrows.0.0 V.formed says.formed.0
+              (each_alone P Is_settled settled (read before (replaced g (suc j) (instance n types p))) 0 V.alone) (each_alone P Is_settled settled x 0 says.arrows.0.1) (V.typed ∙ sym tx) y;
         }
 
     pub met_as : (p : Size) → Met_as p
@@ -547,7 +550,7 @@ module _ (n : ℕ) (types : Variable → Ty) (P : Free → Type 0) (settled : (d
 
         by_function : Met_as r → (l : ℕ) (x s : Size) → t ≡ Fun l x s → erased x ≡ erased (instance n types p) → erased s ≡ erased (instance n types r) → Function_met σ τ (Fun zero p r) t
         by_function rest zero x s f tx ts = subst (Function_met σ τ (Fun zero p r)) (sym f) (arrow_met p r rest b φ χ g j i x s before σ τ w.0 w.1 inferred.0 inferred.1 kinds.1 (subst (Lambda_says P Vars i) f says) tx ts k same taken frames (ap (λ y. meet lo (wanted_way b regular) at φ (Fun zero (read before (replaced g (suc j) (instance n types p))) (read before (replaced g (suc j) (instance n types r)))) χ y σ) (sym f) ∙ z))
-        by_function rest (suc l) x s f tx ts = absurd (subst Plain_arrows f says.arrows)
+        by_function rest (suc l) x s f tx ts = absurd (subst (Plain_arrows P) f says.arrows)
     met_as (Fun (suc l) p r) b φ χ g j i t before σ τ e inferred kinds says typed k same taken frames none_there z = absurd (let y : false ≡ true = e in cc)
     met_as (Built (head.Scalar s) no_size) b φ χ g j i t before σ τ e inferred kinds says typed k same taken frames none_there z = scalar_met lo at (wanted_way b regular) φ χ s t i σ τ k says typed z
     met_as (Built (head.Scalar s) (size_and y ts)) b φ χ g j i t before σ τ e inferred kinds says typed k same taken frames none_there z = absurd (let w : false ≡ true = e in cc)
@@ -562,48 +565,46 @@ module _ (n : ℕ) (types : Variable → Ty) (P : Free → Type 0) (settled : (d
 
     -- ---- the same of a function that is matched as it is wanted, not as that reads
 
-    -- a variable that has taken a type without arrays
-    flat_variable : (b : Bool) (w : Way) (u : Ty) (σ : Found) → meet_variable b w at (flat u) (flat u) σ ≡ Ok σ
-    flat_variable b w u σ = taken_compared b w at (flat u) (flat u) σ (flat_data u) ∙ flat_compared (record { left_wanted = b; in_result = w.in_result; regular = w.regular }) at u σ
-
-    flat_here : (χ : Opened) (u : Ty) (σ : Found) → read σ (in_opened χ (flat u)) ≡ flat u
-    flat_here χ u σ = ap (read σ) (flat_replaced (dim_in χ) 0 u) ∙ flat_read σ u
-
-    wanted_parameter : (p x : Size) (σ : Found) → is_simple q p ≡ true → Each_hole Is_inferred p → Formed x → Flat_type (erased x) → erased x ≡ erased (instance n types p) → ((v : Variable) → q v ≡ true → Taken_here σ v) → Parameter_met σ p (instance n types p) x
-    unfolding is_simple Each_hole instance instances with_types all_with_types has_hole some_hole erased all_erased meet all_meet flat flats
-    wanted_parameter (Hole v) x σ e i fx flat_type tx taken = record {
-      is = λ Θ a. sym (a v h) ∙ now ∙ sym x_is;
+    wanted_parameter : (p x : Size) (σ : Found) → is_simple q p ≡ true → Each_hole Is_inferred p → Formed x → Data x → Each (Alone P) 0 x → Each_hole Vars x → erased x ≡ erased (instance n types p) → ((v : Variable) → q v ≡ true → Taken_here σ v) → Parameter_met σ p (instance n types p) x
+    unfolding is_simple Each_hole instance instances with_types all_with_types has_hole some_hole erased all_erased meet all_meet flat flats Flat_type
+    wanted_parameter (Hole v) x σ e i fx dx ax vx tx taken = record {
+      value = T;
+      is = λ Θ a. sym (a v h);
       here = λ y z. subst (Taken_here σ) (other_variable n types P settled Vars v y i z) h;
-      met = λ w φ χ m. ap (λ y. meet_variable w.left_wanted w at y (read (counted m σ) (in_opened χ x)) (counted m σ)) now ∙ ap (λ y. meet_variable w.left_wanted w at (flat (types v)) (read (counted m σ) (in_opened χ y)) (counted m σ)) x_is
-          ∙ ap (λ y. meet_variable w.left_wanted w at (flat (types v)) y (counted m σ)) (flat_here χ (types v) (counted m σ)) ∙ flat_variable w.left_wanted w (types v) (counted m σ);
+      met = λ w φ χ m υ z. same_compared at (record { left_wanted = w.left_wanted; in_result = w.in_result; regular = w.regular }) T x (counted m σ) υ h.is_data dx h.formed fx (each_alone P Is_settled settled T 0 (data_alone P T h.is_data h.sizes)) settled_x (h.typed ∙ sym tx)
+          (sym (taken_compared w.left_wanted w at T x (counted m σ) h.is_data) ∙ ap (λ y. meet_variable w.left_wanted w at T y (counted m σ)) (sym (reads χ m)) ∙ z);
     }
       where
         h : Taken_here σ v
         h = taken v e
 
-        x_is : x ≡ flat (types v)
-        x_is = flat_is x fx flat_type ∙ ap flat tx
+        T : Size
+        T = σ.type n v (types v)
 
-        now : σ.type n v (types v) ≡ flat (types v)
-        now = flat_is (σ.type n v (types v)) h.formed (subst Flat_type (tx ∙ sym h.typed) flat_type) ∙ ap flat h.typed
-    wanted_parameter (Built (head.Scalar s) no_size) x σ e i fx flat_type tx taken = record {
-      is = λ Θ a. sym x_is;
+        settled_x : Each (Alone Is_settled) 0 x
+        settled_x = each_alone P Is_settled settled x 0 ax
+
+        reads : (χ : Opened) (m : ℕ) → read (counted m σ) (in_opened χ x) ≡ x
+        reads χ m = ap (read (counted m σ)) (alone_replaced P (dim_in χ) (λ j y. refl) x 0 0 ax) ∙ read_settled (counted m σ) x 0 (alone_scoped Is_settled x 0 settled_x) (hole_as Vars Any_variable (λ y k. tt) x vx)
+    wanted_parameter (Built (head.Scalar s) no_size) x σ e i fx dx ax vx tx taken = record {
+      value = Built (head.Scalar s) no_size;
+      is = λ Θ a. refl;
       here = λ y z. absurd (let w : false ≡ true = z in cc);
-      met = λ w φ χ m. ap (λ y. meet lo w at φ (Built (head.Scalar s) no_size) χ y (counted m σ)) x_is;
+      met = λ w φ χ m υ z. (sym x_is, sym (same_ok (ap (λ y. meet lo w at φ (Built (head.Scalar s) no_size) χ y (counted m σ)) (sym x_is) ∙ z)));
     }
       where
         x_is : x ≡ Built (head.Scalar s) no_size
-        x_is = flat_is x fx flat_type ∙ ap flat tx
-    wanted_parameter (Built (head.Scalar s) (size_and t ts)) x σ e i fx flat_type tx taken = absurd (let w : false ≡ true = e in cc)
-    wanted_parameter (Built head.Array ts) x σ e i fx flat_type tx taken = absurd (let w : false ≡ true = e in cc)
-    wanted_parameter (Built head.Tuple ts) x σ e i fx flat_type tx taken = absurd (let w : false ≡ true = e in cc)
-    wanted_parameter (Built (head.Record m) ts) x σ e i fx flat_type tx taken = absurd (let w : false ≡ true = e in cc)
-    wanted_parameter (Built head.Fun ts) x σ e i fx flat_type tx taken = absurd (let w : false ≡ true = e in cc)
-    wanted_parameter (Built (head.Rigid m c) ts) x σ e i fx flat_type tx taken = absurd (let w : false ≡ true = e in cc)
-    wanted_parameter (Built (head.Abstract m c) ts) x σ e i fx flat_type tx taken = absurd (let w : false ≡ true = e in cc)
-    wanted_parameter (Open m v u) x σ e i fx flat_type tx taken = absurd i
-    wanted_parameter (Level d t) x σ e i fx flat_type tx taken = absurd (let w : false ≡ true = e in cc)
-    wanted_parameter (Fun k y r) x σ e i fx flat_type tx taken = absurd (let w : false ≡ true = e in cc)
+        x_is = flat_is x fx (subst Flat_type (sym tx) (tt, tt)) ∙ ap flat tx
+    wanted_parameter (Built (head.Scalar s) (size_and t ts)) x σ e i fx dx ax vx tx taken = absurd (let w : false ≡ true = e in cc)
+    wanted_parameter (Built head.Array ts) x σ e i fx dx ax vx tx taken = absurd (let w : false ≡ true = e in cc)
+    wanted_parameter (Built head.Tuple ts) x σ e i fx dx ax vx tx taken = absurd (let w : false ≡ true = e in cc)
+    wanted_parameter (Built (head.Record m) ts) x σ e i fx dx ax vx tx taken = absurd (let w : false ≡ true = e in cc)
+    wanted_parameter (Built head.Fun ts) x σ e i fx dx ax vx tx taken = absurd (let w : false ≡ true = e in cc)
+    wanted_parameter (Built (head.Rigid m c) ts) x σ e i fx dx ax vx tx taken = absurd (let w : false ≡ true = e in cc)
+    wanted_parameter (Built (head.Abstract m c) ts) x σ e i fx dx ax vx tx taken = absurd (let w : false ≡ true = e in cc)
+    wanted_parameter (Open m v u) x σ e i fx dx ax vx tx taken = absurd i
+    wanted_parameter (Level d t) x σ e i fx dx ax vx tx taken = absurd (let w : false ≡ true = e in cc)
+    wanted_parameter (Fun k y r) x σ e i fx dx ax vx tx taken = absurd (let w : false ≡ true = e in cc)
 
     unread_variable : (b : Bool) (φ χ : Opened) (i : ℕ) (v : Variable) (t : Size) (σ τ : Found) → regular ≡ true → Is_inferred v → 1 ≤ rank K (types v) → Lambda_says P Vars i t → erased t ≡ types v → Taking n types P settled Vars σ → Unknown_frames χ i → No_unknown regular σ χ t
         → meet lo (wanted_way b regular) at φ (Open n v (types v)) χ t σ ≡ Ok τ → Function_met σ τ (Hole v) t
@@ -627,7 +628,7 @@ module _ (n : ℕ) (types : Variable → Ty) (P : Free → Type 0) (settled : (d
 
         of_taken : Taken_here σ v → Function_met σ τ (Hole v) t
         of_taken h =
-            let same = same_compared at way refl (σ.type n v (types v)) t σ τ h.is_data t_data h.formed says.formed (each_alone P Is_settled settled (σ.type n v (types v)) 0 (data_alone P (σ.type n v (types v)) h.is_data h.sizes)) (it_settled lo at way refl φ χ v inferred kind t i says typed σ τ k alone) (h.typed ∙ sym typed)
+            let same = same_compared at way (σ.type n v (types v)) t σ τ h.is_data t_data h.formed says.formed (each_alone P Is_settled settled (σ.type n v (types v)) 0 (data_alone P (σ.type n v (types v)) h.is_data h.sizes)) (it_settled lo at way refl φ χ v inferred kind t i says typed σ τ k alone) (h.typed ∙ sym typed)
             (sym (taken_compared true way at (σ.type n v (types v)) t σ h.is_data) ∙ ap (λ x. meet_variable true way at (σ.type n v (types v)) x σ) (sym it_is) ∙ z) in
             subst (λ (y : Found). Function_met σ y (Hole v) t) (sym same.1) (record {
               taking = k;
@@ -660,12 +661,12 @@ module _ (n : ℕ) (types : Variable → Ty) (P : Free → Type 0) (settled : (d
         w = both_true (is_simple q p) (is_wanted q result_variables r) e
 
         by_says : (x s : Size) → Lambda_says P Vars i (Fun zero x s) → Unread r → erased x ≡ erased (instance n types p) → erased s ≡ erased (instance n types r) → meet lo (wanted_way b regular) at φ (Fun zero (instance n types p) (instance n types r)) χ (Fun zero x s) σ ≡ Ok τ → Function_met σ τ (Fun zero p r) (Fun zero x s)
-        by_says x s o rest tx ts y = arrow_with p r (instance n types p) (instance n types r) x s b φ χ i σ τ o (wanted_parameter p x σ w.0 inferred.0 o.formed.0 o.arrows.0 tx taken) frames
+        by_says x s o rest tx ts y = arrow_with p r (instance n types p) (instance n types r) x s b φ χ i σ τ o (wanted_parameter p x σ w.0 inferred.0 o.formed.0 o.arrows.0.0 o.arrows.0.1 o.variables.0 tx taken) frames
             (λ φ' χ' m fr none_here u. rest true φ' χ' (suc i) s (counted m σ) τ w.1 inferred.1 kinds.1 (record { formed = o.formed.1; sizes = o.sizes.1; variables = o.variables.1; arrows = o.arrows.1 }) ts k taken fr (λ y. none_here) u) y
 
         by_function : Unread r → (l : ℕ) (x s : Size) → t ≡ Fun l x s → erased x ≡ erased (instance n types p) → erased s ≡ erased (instance n types r) → Function_met σ τ (Fun zero p r) t
         by_function rest zero x s f tx ts = subst (Function_met σ τ (Fun zero p r)) (sym f) (by_says x s (subst (Lambda_says P Vars i) f says) rest tx ts (ap (λ y. meet lo (wanted_way b regular) at φ (Fun zero (instance n types p) (instance n types r)) χ y σ) (sym f) ∙ z))
-        by_function rest (suc l) x s f tx ts = absurd (subst Plain_arrows f says.arrows)
+        by_function rest (suc l) x s f tx ts = absurd (subst (Plain_arrows P) f says.arrows)
     unread_met (Fun (suc l) p r) b φ χ i t σ τ e inferred kinds says typed k taken frames none_there z = absurd (let y : false ≡ true = e in cc)
     unread_met (Built (head.Scalar s) no_size) b φ χ i t σ τ e inferred kinds says typed k taken frames none_there z = scalar_met lo at (wanted_way b regular) φ χ s t i σ τ k says typed z
     unread_met (Built (head.Scalar s) (size_and y ts)) b φ χ i t σ τ e inferred kinds says typed k taken frames none_there z = absurd (let w : false ≡ true = e in cc)

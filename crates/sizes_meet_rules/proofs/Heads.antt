@@ -1,18 +1,18 @@
 -- What may be applied to arguments: a name, to data, or a primitive, to data and one lambda.
-use Rattle.std.proofs.Common.{◌≡◌, ◌⊎◌, ℕ, ◌≤◌, List, Bool, true, false, ◌||◌, Ok, refl, arith, sym, ap, ◌∙◌, subst, inl, inr}
+use Rattle.std.proofs.Common.{◌≡◌, ◌⊎◌, ℕ, ◌≤◌, List, ◌∷◌, Bool, true, false, ◌||◌, Some, Ok, refl, arith, sym, ap, ◌∙◌, subst, inl, inr}
 use Rattle.fut_scalar.specs.declared.place.BindId.{BindId}
 use Rattle.fut_scalar.specs.declared.place.Place.{Place}
 use Rattle.fut_flat.specs.declared.prim.Primitive.{Primitive}
 use Rattle.fut_flat.specs.declared.prim.Ref.TheVariants as ref
 use Rattle.fut_flat.specs.Terms.{Use}
 use Rattle.fut_flat.specs.Erased.{FlatTerm}
-use Rattle.fut_types.specs.Types.{Ty, Sub, Kinds, rank, applied}
+use Rattle.fut_types.specs.Types.{Ty, fun_ty, Sub, Kinds, rank, applied}
 use Rattle.fut_typing.specs.Names.{Names}
 use Rattle.fut_typing.specs.Primitives.{prim_type}
 use Rattle.sized_types.specs.Sizes.{Free, Variable, Size, erased}
-use Rattle.fut_sizes.specs.Applications.{Applied}
+use Rattle.fut_sizes.specs.Applications.{Want, Met, Applied}
 use Rattle.fut_sizes.specs.Functions.{is_slot}
-use Rattle.fut_sizes.specs.Matching.{Found, nothing_found, none_opened}
+use Rattle.fut_sizes.specs.Matching.{Found, nothing_found, made_at, none_opened}
 use Rattle.fut_sizes.specs.Primitives.{prim_size, is_regular}
 use Rattle.fut_sizes.specs.Rules.{Filled_use, filled as with_types, Sized}
 use Rattle.fut_sizes.specs.Scopes.{Scope, instance, used}
@@ -21,13 +21,13 @@ use Rattle.fut_sizes.specs.Sizing.{finished}
 use Rattle.fut_sizes.specs.Steps.{State, Done}
 use Rattle.fut_sizes.specs.Suiting.{suits_same}
 use Rattle.sizes_meet_rules.specs.Known.{Says, Known_name, Judged}
-use Rattle.sizes_meet_rules.proofs.Chains.{Given, arguments, arrows_of, Takes_all, Has_arrows, Widths, takes_arrows, All_kinds, data_kinds as kinds_of_data, last_found, no_function_met, Steps_ran, Matched_ran, steps_ran, data_ran}
+use Rattle.sizes_meet_rules.proofs.Chains.{Given, Waiting_given, here, arguments, arrows_of, Takes_all, Has_arrows, Widths, takes_arrows, All_kinds, data_kinds as kinds_of_data, last_found, no_function_met, Steps_ran, Matched_ran, steps_ran, data_ran}
 use Rattle.sizes_meet_rules.proofs.Fitting.{Gives_type, data_gives}
 use Rattle.sizes_meet_rules.proofs.Filling.{data_holes, lambda_holes, Taken_at, Agrees, stays_taken, Arrows, none_taken, Chain_as, chain_as}
 use Rattle.sizes_meet_rules.proofs.Alike.{Behind_data, Given_ran, given_ran}
-use Rattle.sizes_meet_rules.proofs.Lambdas.{All_data_given, One_given, given_data, one_kinds, Kinds_taken, data_kinds, kinds_take, One_lambda, Lambda_met, lambda_ran}
+use Rattle.sizes_meet_rules.proofs.Lambdas.{wanted_of, found_behind, Wants_formed, Lambda_result, All_data_given, One_given, given_data, one_kinds, Kinds_taken, data_kinds, kinds_take, One_lambda, Lambda_met, lambda_ran, One_wide, wide_wants, wide_ran}
 use Rattle.sizes_meet_rules.proofs.Meeting.{same_ok, says_more}
-use Rattle.sizes_meet_rules.proofs.Primitives.{parameter_holes, Prim_ok, prim_ok, types_there, prim_data, prim_lambda, prim_widths, prim_typed, prim_says}
+use Rattle.sizes_meet_rules.proofs.Primitives.{parameter_holes, Prim_ok, prim_ok, types_there, prim_data, prim_lambda, prim_wide, prim_widths, prim_typed, prim_says}
 use Rattle.sizes_meet_rules.proofs.Replacing.{hole_as}
 use Rattle.sizes_meet_rules.proofs.Using.{use_rules}
 
@@ -211,3 +211,44 @@ module _ (N : Names) (types : Sub) (home : ℕ → ℕ) (K : Kinds) where
         pub resolved : Gives_type K result → (Primitive_head → 1 ≤ rank K result) → All_data_given P Vars K types gs → Head → Resolved Stays_there
         resolved gives_it is_data D (inl H) = named_resolved gives_it D H
         resolved gives_it is_data D (inr H) = primitive_data H (is_data H) D
+
+    -- a primitive applied to a lambda, which takes the parameters that are wanted of it, and to data, in which fewer sizes may stand
+    module _ (P : Free → Type 0) (wide : (d : Free) → In d → P d) (settled : (d : Free) → P d → is_slot d ≡ false) (P' : Free → Type 0) (settled' : (d : Free) → P' d → is_slot d ≡ false) (n : ℕ) (x : Given) (gs : List Given) (st : State) (u : Done Size)
+        (result : Ty) (arrows : type ≡ arrows_of types (x ∷ gs) result) (widths : Widths (x ∷ gs) whole) (ran : finished N types n (Applied whole regular (arguments (x ∷ gs))) st ≡ Ok u) (H : Primitive_head) (result_data : 1 ≤ rank K result) where
+      abbrev types_of : Variable → Ty
+      types_of = types_there H.node H.primitive type H.given H.typed
+
+      abbrev pub opened_there : Size
+      opened_there = instance H.node types_of (prim_size H.primitive)
+
+      abbrev pub want_there : Found → Want
+      want_there before = wanted_of n (is_regular H.primitive) x gs opened_there before
+
+      pub primitive_wide : (Went : Type 0) (after : State) → (V : Waiting_given x) → (a c : Ty) → types x.node ≡ fun_ty a c → All_data_given P Vars K types gs → All_data_given P' Vars K types gs
+          → ((before : Found) (m : Done Met) → found_behind n x gs opened_there ≡ Ok before → Wants_formed P' K (want_there before).size × (erased (want_there before).size ≡ types x.node) → V.waiting (Some (want_there before)) (made_at (here n gs) before) st ≡ Ok m → Lambda_result P Vars Went after x (types x.node) (want_there before) (made_at (here n gs) before) m)
+          → Resolved P wide settled n (x ∷ gs) st u (λ s. Went × (s ≡ after))
+      primitive_wide Went after V a c is D D' run = as_given P wide settled n (x ∷ gs) st u result arrows widths ran H result_data A.0 R (λ s. Went × (s ≡ after)) (lambda_behind P wide settled n (x ∷ gs) st u result arrows widths ran H result_data A.0 R Went after L) L.is (L.went, L.state)
+        where
+          A : Arrows H.node types_of P settled Vars (x ∷ gs) (prim_size H.primitive) × One_wide H.node types_of P settled Vars K types Went st after n (data_holes (prim_size H.primitive)) (is_regular H.primitive) (x ∷ gs) (prim_size H.primitive)
+          A = prim_wide H.node H.primitive type H.given H.typed P settled Vars K H.kinds types x gs result result_data arrows Went st after n V.is_fun a c is D
+
+          A' : Arrows H.node types_of P' settled' Vars (x ∷ gs) (prim_size H.primitive) × One_wide H.node types_of P' settled' Vars K types Went st after n (data_holes (prim_size H.primitive)) (is_regular H.primitive) (x ∷ gs) (prim_size H.primitive)
+          A' = prim_wide H.node H.primitive type H.given H.typed P' settled' Vars K H.kinds types x gs result result_data arrows Went st after n V.is_fun a c is D'
+
+          kinds : All_kinds (x ∷ gs)
+          kinds = (inr V, kinds_of_data n gs (given_data P Vars K types n gs D))
+
+          R : Steps_ran n N types (is_regular H.primitive) (x ∷ gs) opened_there st u
+          R = steps P wide settled n (x ∷ gs) st u result arrows widths ran H result_data A.0 kinds
+
+          C : Chain_as H.node types_of P settled Vars n (x ∷ gs) none_opened (prim_size H.primitive) nothing_found (last_found n (x ∷ gs) opened_there nothing_found) R.first
+          C = chain_as H.node types_of P settled Vars n (x ∷ gs) none_opened (prim_size H.primitive) nothing_found (last_found n (x ∷ gs) opened_there nothing_found) R.first A.0 (prim_ok H.primitive).formed (prim_ok H.primitive).inferred (none_taken H.node types_of P settled Vars n (x ∷ gs) opened_there nothing_found (λ v. inl refl)) R.met
+
+          C' : Chain_as H.node types_of P' settled' Vars n (x ∷ gs) none_opened (prim_size H.primitive) nothing_found (last_found n (x ∷ gs) opened_there nothing_found) R.first
+          C' = chain_as H.node types_of P' settled' Vars n (x ∷ gs) none_opened (prim_size H.primitive) nothing_found (last_found n (x ∷ gs) opened_there nothing_found) R.first A'.0 (prim_ok H.primitive).formed (prim_ok H.primitive).inferred (none_taken H.node types_of P' settled' Vars n (x ∷ gs) opened_there nothing_found (λ v. inl refl)) R.met
+
+          W : Wants_formed P' K (want_there R.first).size × (erased (want_there R.first).size ≡ types x.node)
+          W = wide_wants H.node types_of P' settled' Vars K types Went st after n (data_holes (prim_size H.primitive)) (is_regular H.primitive) x gs (prim_size H.primitive) R.first A'.1 C'.taking C'.data_taken
+
+          L : Lambda_met H.node types_of P settled Vars K types Went st after n (data_holes (prim_size H.primitive)) (is_regular H.primitive) (x ∷ gs) (prim_size H.primitive) R.first R.last
+          L = wide_ran H.node types_of P settled Vars K types Went st after n (data_holes (prim_size H.primitive)) (is_regular H.primitive) x gs (prim_size H.primitive) R.first R.last V (λ m b z. run R.first m b W z) A.1 (has P wide settled n (x ∷ gs) st u result arrows widths ran H result_data A.0) C.taking C.data_taken R.met R.functions

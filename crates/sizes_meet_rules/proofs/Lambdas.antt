@@ -3,18 +3,18 @@ use Rattle.std.proofs.Common.{◌≡◌, ◌⊎◌, ℕ, zero, suc, ◌<◌, ◌
 use Rattle.fut_types.specs.declared.Head.TheVariants as head
 use Rattle.fut_types.specs.Types.{Ty, fun_ty, Sub, Kinds, rank}
 use Rattle.sized_types.specs.Sizes.{Free, Dim, Variable, Size, Hole, Open, Level, Built, Fun, no_size, size_and, erased, all_erased, replaced, all_replaced}
-use Rattle.fut_sizes.specs.Agreeing.{Answer}
-use Rattle.fut_sizes.specs.Applications.{Want, Met, is_function, is_arrow, functions_met}
+use Rattle.fut_sizes.specs.Agreeing.{Answer, then_do}
+use Rattle.fut_sizes.specs.Applications.{Want, Met, is_function, is_arrow, data_met, functions_met}
 use Rattle.fut_sizes.specs.Functions.{is_slot}
-use Rattle.fut_sizes.specs.Matching.{Found, made_at, read, all_read, Opened, none_opened, dim_in, in_opened, function_way, meet}
+use Rattle.fut_sizes.specs.Matching.{Found, nothing_found, made_at, read, all_read, Opened, none_opened, dim_in, in_opened, data_way, function_way, meet}
 use Rattle.fut_sizes.specs.Rules.{Each_hole, filled as with_types}
 use Rattle.fut_sizes.specs.Scopes.{instance, instances}
 use Rattle.fut_sizes.specs.Steps.{State, Done, Step, ask, and_then, give}
-use Rattle.fut_sizes.specs.Suiting.{Each, Of_positions, Data}
+use Rattle.fut_sizes.specs.Suiting.{Each, Scoped, Of_positions, Data}
 use Rattle.sizes_meet_rules.specs.Known.{is_i64_size, No_sizes, Formed, All_formed}
 use Rattle.sizes_meet_rules.proofs.Applying.{Function_size, function_is}
 use Rattle.sizes_meet_rules.proofs.Forming.{data_of}
-use Rattle.sizes_meet_rules.proofs.Chains.{All_kinds, data_kinds as kinds_of_data, arrows_of, Takes_all, Taken_by, Given, Waiting_given, argument_by, here, opened_by, after as found_after, given_wants, All_data, Has_arrows, one_function, function_step, data_passed, no_function_met, kept_maker, Alone, Function_taken}
+use Rattle.sizes_meet_rules.proofs.Chains.{All_kinds, data_kinds as kinds_of_data, arrows_of, Takes_all, Taken_by, Given, Waiting_given, argument_by, here, opened_by, after as found_after, wants as early_wants, last_found, given_wants, alone_scoped, All_data, Has_arrows, one_function, function_step, data_passed, no_function_met, kept_maker, Alone, Function_taken}
 use Rattle.sizes_meet_rules.proofs.Filling.{Data_fit, function_holes, lambda_holes, Is_inferred, Taken_at, Taking, Stays, Agrees}
 use Rattle.sizes_meet_rules.proofs.Fitting.{Gives_type, gives, is_simple, is_wanted, Lambda_says, Function_met, simple_value, met_as, unread_met, each_alone}
 use Rattle.sizes_meet_rules.proofs.Meeting.{Then_ok, then_ok, Asked, asked, same_ok}
@@ -25,11 +25,24 @@ both_true : (a b : Bool) → a && b ≡ true → (a ≡ true) × (b ≡ true)
 both_true true b e = (refl, e)
 both_true false b e = absurd (let z : false ≡ true = e in cc)
 
--- what is wanted of a lambda: its parameters have a form, and its result is data
-abbrev pub Wants_formed : Kinds → Size → Type 0
-Wants_formed K (Fun k x r) = Formed x × Wants_formed K r
-Wants_formed K (Open m v u) = 1 ≤ rank K u
-Wants_formed K t = Formed t
+-- what an application wants of a lambda among its arguments, once data is matched
+abbrev pub want_by : ℕ → Bool → Given → List Given → Opened → ℕ → Size → Found → Found → Want
+want_by lo regular g gs φ k p σ before = record { node = here lo gs; is_regular = regular; size = read before (in_opened (opened_by lo gs g σ k φ) p) }
+
+-- where it is the first
+abbrev pub wanted_of : ℕ → Bool → Given → List Given → Size → Found → Want
+wanted_of lo regular g gs (Fun k p r) before = want_by lo regular g gs none_opened k p nothing_found before
+wanted_of lo regular g gs t before = record { node = here lo gs; is_regular = regular; size = t }
+
+abbrev pub found_behind : ℕ → Given → List Given → Size → Answer Found
+found_behind lo g gs (Fun k p r) = data_met (early_wants lo gs (opened_by lo gs g nothing_found k none_opened) r (found_after lo gs g nothing_found k)) (last_found lo gs r (found_after lo gs g nothing_found k))
+found_behind lo g gs t = Ok nothing_found
+
+-- what is wanted of a lambda: its parameters are data of these sizes, and its result is data
+abbrev pub Wants_formed : (Free → Type 0) → Kinds → Size → Type 0
+Wants_formed P K (Fun k x r) = (Data x × Formed x × Each (Scoped P) 0 x) × Wants_formed P K r
+Wants_formed P K (Open m v u) = 1 ≤ rank K u
+Wants_formed P K t = Formed t
 
 -- the lambda by itself was sized from a state, which leaves another
 pub record Lambda_result (P : Free → Type 0) (Vars : Variable → Type 0) (Went : Type 0) (after : State) (g : Given) (type : Ty) (w : Want) (σ : Found) (m : Done Met) : Type 0 where
@@ -42,7 +55,7 @@ pub record Lambda_result (P : Free → Type 0) (Vars : Variable → Type 0) (Wen
 pub record Waiting_fit (P : Free → Type 0) (Vars : Variable → Type 0) (K : Kinds) (Went : Type 0) (st after : State) (g : Given) : Type 0 where
   pub given : Waiting_given g
   pub type : Ty
-  pub run : (w : Want) (σ : Found) (m : Done Met) → Wants_formed K w.size → erased w.size ≡ type → given.waiting (Some w) σ st ≡ Ok m → Lambda_result P Vars Went after g type w σ m
+  pub run : (w : Want) (σ : Found) (m : Done Met) → Wants_formed P K w.size → erased w.size ≡ type → given.waiting (Some w) σ st ≡ Ok m → Lambda_result P Vars Went after g type w σ m
 
 -- arguments of data alone
 abbrev pub Data_given : (Free → Type 0) → (Variable → Type 0) → Kinds → Sub → Given → Type 0
@@ -119,7 +132,7 @@ module _ (n : ℕ) (types : Variable → Ty) (P : Free → Type 0) (settled : (d
 
   -- ---- what is wanted has a form
 
-  data_wants : (t : Size) → Data t → Formed t → Wants_formed K t
+  data_wants : (t : Size) → Data t → Formed t → Wants_formed P K t
   unfolding Data
   data_wants (Hole v) d f = f
   data_wants (Open m v u) d f = absurd d
@@ -127,23 +140,23 @@ module _ (n : ℕ) (types : Variable → Ty) (P : Free → Type 0) (settled : (d
   data_wants (Built h ts) d f = f
   data_wants (Fun k p r) d f = absurd d
 
-  variable_wants : (v : Variable) (σ : Found) → 1 ≤ rank K (types v) → Taking n types P settled Vars σ → Wants_formed K (σ.type n v (types v)) × (erased (σ.type n v (types v)) ≡ types v)
+  variable_wants : (v : Variable) (σ : Found) → 1 ≤ rank K (types v) → Taking n types P settled Vars σ → Wants_formed P K (σ.type n v (types v)) × (erased (σ.type n v (types v)) ≡ types v)
   unfolding erased
   variable_wants v σ kind k = by_form (k v)
     where
-      by_form : (σ.type n v (types v) ≡ Open n v (types v)) ⊎ Taken_here σ v → Wants_formed K (σ.type n v (types v)) × (erased (σ.type n v (types v)) ≡ types v)
-      by_form (inl z) = subst (λ x. Wants_formed K x × (erased x ≡ types v)) (sym z) (kind, refl)
+      by_form : (σ.type n v (types v) ≡ Open n v (types v)) ⊎ Taken_here σ v → Wants_formed P K (σ.type n v (types v)) × (erased (σ.type n v (types v)) ≡ types v)
+      by_form (inl z) = subst (λ x. Wants_formed P K x × (erased x ≡ types v)) (sym z) (kind, refl)
       by_form (inr h) = (data_wants (σ.type n v (types v)) h.is_data h.formed, h.typed)
 
   module _ (q e : Variable → Bool) (g : ℕ → Dim → Dim) (σ : Found) (taking : Taking n types P settled Vars σ) (taken : (v : Variable) → q v ≡ true → Taken_here σ v) where
-    wants : (p : Size) (j : ℕ) → is_wanted q e p ≡ true → Each_hole Is_inferred p → Each_hole (λ v. 1 ≤ rank K (types v)) p → Wants_formed K (read σ (replaced g j (Opened_type p))) × (erased (read σ (replaced g j (Opened_type p))) ≡ erased (Opened_type p))
+    pub wants : (p : Size) (j : ℕ) → is_wanted q e p ≡ true → Each_hole Is_inferred p → Each_hole (λ v. 1 ≤ rank K (types v)) p → Wants_formed P K (read σ (replaced g j (Opened_type p))) × (erased (read σ (replaced g j (Opened_type p))) ≡ erased (Opened_type p))
     unfolding is_wanted is_simple Each_hole read all_read replaced all_replaced instance instances erased all_erased Formed All_formed
     wants (Hole v) j w i k = variable_wants v σ k taking
     wants (Fun zero p r) j w i k =
         let b = both_true (is_simple q p) (is_wanted q e r) w in
         let V = simple_value n types P settled Vars K q g (suc j) p σ σ b.0 i.0 refl taken in
         let R = wants r (suc j) b.1 i.1 k.1 in
-        ((V.formed, R.0), ap (λ x. fun_ty x (erased (read σ (replaced g (suc j) (Opened_type r))))) V.typed ∙ ap (fun_ty (erased (Opened_type p))) R.1)
+        (((V.is_data, V.formed, alone_scoped P (read σ (replaced g (suc j) (Opened_type p))) 0 V.alone), R.0), ap (λ x. fun_ty x (erased (read σ (replaced g (suc j) (Opened_type r))))) V.typed ∙ ap (fun_ty (erased (Opened_type p))) R.1)
     wants (Fun (suc l) p r) j w i k = absurd (let z : false ≡ true = w in cc)
     wants (Built (head.Scalar s) no_size) j w i k = ((tt, tt), refl)
     wants (Built (head.Scalar s) (size_and y ts)) j w i k = absurd (let z : false ≡ true = w in cc)
@@ -209,10 +222,18 @@ module _ (n : ℕ) (types : Variable → Ty) (P : Free → Type 0) (settled : (d
         closed = subst (Each_hole Any_variable) (sym (M.is Θ a)) (hole_as Vars Any_variable (λ v k. tt) g.size says.variables);
       }
 
-      lambda_met : (g : Given) (gs : List Given) (φ : Opened) (k : ℕ) (p r : Size) (σ before : Found) (d : Done Found) → Lambda_there g p → All_data_given P Vars K sub gs → ((v : Variable) → lambda_holes r v ≡ false) → Has_arrows gs (Opened_type r) → Taking n types P settled Vars before → ((v : Variable) → q v ≡ true → Taken_here before v)
+      -- as a parameter of this type wants it
+      pub record Function_wanted (p : Size) (type : Ty) : Type 0 where
+        pub wanted : is_wanted q (λ v. regular) p ≡ true
+        pub arrow : is_arrow p ≡ true
+        pub inferred : Each_hole Is_inferred p
+        pub kinds : Each_hole (λ v. 1 ≤ rank K (types v)) p
+        pub typed : erased (Opened_type p) ≡ type
+
+      met_by : (g : Given) (gs : List Given) (φ : Opened) (k : ℕ) (p r : Size) (σ before : Found) (d : Done Found) (type : Ty) → Function_wanted p type → (V : Waiting_given g) → ((m : Done Met) → V.waiting (Some (want_by lo regular g gs φ k (Opened_type p) σ before)) (made_at (here lo gs) before) st ≡ Ok m → Lambda_result P Vars Went after g type (want_by lo regular g gs φ k (Opened_type p) σ before) (made_at (here lo gs) before) m) → All_data_given P Vars K sub gs → ((v : Variable) → lambda_holes r v ≡ false) → Has_arrows gs (Opened_type r) → Taking n types P settled Vars before → ((v : Variable) → q v ≡ true → Taken_here before v)
           → functions_met regular (given_wants lo (g ∷ gs) φ (Opened_type (Fun k p r)) σ) before st ≡ Ok d → Lambda_met (g ∷ gs) (Fun k p r) before d
       unfolding instance with_types lambda_holes
-      lambda_met g gs φ k p r σ before d L data_rest none_rest arrows taking taken e = record {
+      met_by g gs φ k p r σ before d type L V run data_rest none_rest arrows taking taken e = record {
         went = result.went;
         state = ap (λ (y : Done Found). y.state) (sym last) ∙ result.state;
         taking = subst (Taking n types P settled Vars) found_is M.taking;
@@ -221,23 +242,23 @@ module _ (n : ℕ) (types : Variable → Ty) (P : Free → Type 0) (settled : (d
         later = subst (λ (y : Found). before.next ≤ y.next) found_is M.later;
         makers = λ i l. ap (λ (y : Found). y.maker i) (sym found_is) ∙ ap (λ (f : ℕ → ℕ). f i) M.maker ∙ kept_maker lo (here lo gs) before i l;
         taken = λ v y. subst (λ (z : Found). Taken_here z v) found_is (M.here v (of_function p r L.arrow none_rest v y));
-        is = λ Θ a. (inr (function_taken p g (made_at (here lo gs) before) x2.first.result.found M L.fit.given.is_fun result.says Θ (subst (Agrees n types P settled Vars Θ) (sym found_is) a)), data_kinds P Vars K sub gs (with_types Θ r) data_rest);
+        is = λ Θ a. (inr (function_taken p g (made_at (here lo gs) before) x2.first.result.found M V.is_fun result.says Θ (subst (Agrees n types P settled Vars Θ) (sym found_is) a)), data_kinds P Vars K sub gs (with_types Θ r) data_rest);
       }
         where
           ψ : Opened
           ψ = opened_by lo gs g σ k φ
 
           want : Want
-          want = record { node = here lo gs; is_regular = regular; size = read before (in_opened ψ (Opened_type p)) }
+          want = want_by lo regular g gs φ k (Opened_type p) σ before
 
           rest : Found → Step Found
           rest found = functions_met regular (given_wants lo gs ψ (Opened_type r) (found_after lo gs g σ k)) found
 
           waiting : Option Want → Found → Step Met
-          waiting = L.fit.given.waiting
+          waiting = V.waiting
 
           now : and_then (and_then (waiting (Some want) (made_at (here lo gs) before)) (λ m. give m.found)) rest st ≡ Ok d
-          now = sym (function_step lo regular gs ψ (Opened_type p) (argument_by g.waits g) (given_wants lo gs ψ (Opened_type r) (found_after lo gs g σ k)) before st ∙ ap (λ o. and_then (one_function lo regular gs ψ (Opened_type p) (argument_by o g) before) rest st) L.fit.given.waits) ∙ e
+          now = sym (function_step lo regular gs ψ (Opened_type p) (argument_by g.waits g) (given_wants lo gs ψ (Opened_type r) (found_after lo gs g σ k)) before st ∙ ap (λ o. and_then (one_function lo regular gs ψ (Opened_type p) (argument_by o g) before) rest st) V.waits) ∙ e
 
           x1 : Then_ok (and_then (waiting (Some want) (made_at (here lo gs) before)) (λ m. give m.found) st) (λ y. rest y.result y.state) d
           x1 = then_ok (and_then (waiting (Some want) (made_at (here lo gs) before)) (λ m. give m.found) st) now
@@ -245,11 +266,8 @@ module _ (n : ℕ) (types : Variable → Ty) (P : Free → Type 0) (settled : (d
           x2 : Then_ok (waiting (Some want) (made_at (here lo gs) before) st) (λ m. Ok (record { result = m.result.found; state = m.state })) x1.first
           x2 = then_ok (waiting (Some want) (made_at (here lo gs) before) st) x1.done
 
-          W : Wants_formed K want.size × (erased want.size ≡ erased (Opened_type p))
-          W = wants q (λ v. regular) (dim_in ψ) before taking taken p 0 L.wanted L.inferred L.kinds
-
-          result : Lambda_result P Vars Went after g L.fit.type want (made_at (here lo gs) before) x2.first
-          result = L.fit.run want (made_at (here lo gs) before) x2.first W.0 (W.1 ∙ L.typed) x2.done
+          result : Lambda_result P Vars Went after g type want (made_at (here lo gs) before) x2.first
+          result = run x2.first x2.done
 
           M : Function_met n types P settled Vars K (made_at (here lo gs) before) x2.first.result.found p g.size
           M = met_as n types P settled Vars K q regular (here lo gs) g.node p false none_opened none_opened (dim_in ψ) 0 0 g.size before (made_at (here lo gs) before) x2.first.result.found L.wanted L.inferred L.kinds result.says (result.typed ∙ sym L.typed) taking refl taken
@@ -263,6 +281,14 @@ module _ (n : ℕ) (types : Variable → Ty) (P : Free → Type 0) (settled : (d
 
           found_is : x2.first.result.found ≡ d.result
           found_is = ap (λ (y : Done Found). y.result) last
+
+      lambda_met : (g : Given) (gs : List Given) (φ : Opened) (k : ℕ) (p r : Size) (σ before : Found) (d : Done Found) → Lambda_there g p → All_data_given P Vars K sub gs → ((v : Variable) → lambda_holes r v ≡ false) → Has_arrows gs (Opened_type r) → Taking n types P settled Vars before → ((v : Variable) → q v ≡ true → Taken_here before v)
+          → functions_met regular (given_wants lo (g ∷ gs) φ (Opened_type (Fun k p r)) σ) before st ≡ Ok d → Lambda_met (g ∷ gs) (Fun k p r) before d
+      lambda_met g gs φ k p r σ before d L data_rest none_rest arrows taking taken e = met_by g gs φ k p r σ before d L.fit.type (record { wanted = L.wanted; arrow = L.arrow; inferred = L.inferred; kinds = L.kinds; typed = L.typed }) L.fit.given
+          (λ m z. L.fit.run (want_by lo regular g gs φ k (Opened_type p) σ before) (made_at (here lo gs) before) m W.0 (W.1 ∙ L.typed) z) data_rest none_rest arrows taking taken e
+        where
+          W : Wants_formed P K (want_by lo regular g gs φ k (Opened_type p) σ before).size × (erased (want_by lo regular g gs φ k (Opened_type p) σ before).size ≡ erased (Opened_type p))
+          W = wants q (λ v. regular) (dim_in (opened_by lo gs g σ k φ)) before taking taken p 0 L.wanted L.inferred L.kinds
 
       early_met : (g : Given) (gs : List Given) (φ : Opened) (k : ℕ) (p r : Size) (σ before : Found) (d : Done Found) → Early_there g p → All_data_given P Vars K sub gs → ((v : Variable) → lambda_holes r v ≡ false) → Has_arrows gs (Opened_type r) → Taking n types P settled Vars before → ((v : Variable) → q v ≡ true → Taken_here before v)
           → functions_met regular (given_wants lo (g ∷ gs) φ (Opened_type (Fun k p r)) σ) before st ≡ Ok d → Lambda_met (g ∷ gs) (Fun k p r) before d
@@ -330,3 +356,34 @@ module _ (n : ℕ) (types : Variable → Ty) (P : Free → Type 0) (settled : (d
       lambda_ran (g ∷ gs) φ (Open m v u) σ before d o arrows taking taken e = absurd o
       lambda_ran (g ∷ gs) φ (Level x t) σ before d o arrows taking taken e = absurd o
       lambda_ran (g ∷ gs) φ (Built h ts) σ before d o arrows taking taken e = absurd o
+
+      -- ---- a lambda before data, which takes the parameters that are wanted of it
+
+      abbrev pub One_wide : List Given → Size → Type 0
+      One_wide (g ∷ gs) (Fun k p r) = Function_wanted p (sub g.node) × All_data_given P Vars K sub gs × ((v : Variable) → lambda_holes r v ≡ false)
+      One_wide gs t = ⊥
+
+      wide_behind : (g : Given) (gs : List Given) (k : ℕ) (p r : Size) (before : Found) → is_function g.size ≡ true → data_met (early_wants lo (g ∷ gs) none_opened (Opened_type (Fun k p r)) nothing_found) (last_found lo (g ∷ gs) (Opened_type (Fun k p r)) nothing_found) ≡ Ok before → found_behind lo g gs (Opened_type (Fun k p r)) ≡ Ok before
+      unfolding instance data_met
+      wide_behind g gs k p r before is_fun e = sym (ap (λ b. then_do (cond b (Ok start) (meet (here lo gs) data_way g.node (opened_by lo gs g nothing_found k none_opened) (Opened_type p) none_opened g.size (made_at (here lo gs) start))) (λ found. data_met (early_wants lo gs (opened_by lo gs g nothing_found k none_opened) (Opened_type r) (found_after lo gs g nothing_found k)) found)) is_fun) ∙ e
+        where
+          start : Found
+          start = last_found lo gs (Opened_type r) (found_after lo gs g nothing_found k)
+
+      pub wide_ran : (g : Given) (gs : List Given) (t : Size) (before : Found) (d : Done Found) (V : Waiting_given g) → ((m : Done Met) → found_behind lo g gs (Opened_type t) ≡ Ok before → V.waiting (Some (wanted_of lo regular g gs (Opened_type t) before)) (made_at (here lo gs) before) st ≡ Ok m → Lambda_result P Vars Went after g (sub g.node) (wanted_of lo regular g gs (Opened_type t) before) (made_at (here lo gs) before) m)
+          → One_wide (g ∷ gs) t → Has_arrows (g ∷ gs) (Opened_type t) → Taking n types P settled Vars before → ((v : Variable) → q v ≡ true → Taken_here before v) → data_met (early_wants lo (g ∷ gs) none_opened (Opened_type t) nothing_found) (last_found lo (g ∷ gs) (Opened_type t) nothing_found) ≡ Ok before
+          → functions_met regular (given_wants lo (g ∷ gs) none_opened (Opened_type t) nothing_found) before st ≡ Ok d → Lambda_met (g ∷ gs) t before d
+      unfolding instance
+      wide_ran g gs (Fun k p r) before d V run o arrows taking taken behind e = met_by g gs none_opened k p r nothing_found before d (sub g.node) o.0 V (λ m z. run m (wide_behind g gs k p r before V.is_fun behind) z) o.1 o.2 arrows.1 taking taken e
+      wide_ran g gs (Hole v) before d V run o arrows taking taken behind e = absurd o
+      wide_ran g gs (Open m v u) before d V run o arrows taking taken behind e = absurd o
+      wide_ran g gs (Level x t) before d V run o arrows taking taken behind e = absurd o
+      wide_ran g gs (Built h ts) before d V run o arrows taking taken behind e = absurd o
+
+      pub wide_wants : (g : Given) (gs : List Given) (t : Size) (before : Found) → One_wide (g ∷ gs) t → Taking n types P settled Vars before → ((v : Variable) → q v ≡ true → Taken_here before v) → Wants_formed P K (wanted_of lo regular g gs (Opened_type t) before).size × (erased (wanted_of lo regular g gs (Opened_type t) before).size ≡ sub g.node)
+      unfolding instance
+      wide_wants g gs (Fun k p r) before o taking taken = let W = wants q (λ v. regular) (dim_in (opened_by lo gs g nothing_found k none_opened)) before taking taken p 0 o.0.wanted o.0.inferred o.0.kinds in (W.0, W.1 ∙ o.0.typed)
+      wide_wants g gs (Hole v) before o taking taken = absurd o
+      wide_wants g gs (Open m v u) before o taking taken = absurd o
+      wide_wants g gs (Level x t) before o taking taken = absurd o
+      wide_wants g gs (Built h ts) before o taking taken = absurd o

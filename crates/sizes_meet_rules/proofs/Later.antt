@@ -1,5 +1,5 @@
 -- The lambda among the arguments of a primitive is sized behind the others: its sized type, and what it leaves.
-use Rattle.std.proofs.Common.{◌≡◌, ◌⊎◌, ℕ, zero, suc, ◌+◌, ◌<◌, ◌≤◌, List, [], ◌∷◌, true, Option, Some, None, Ok, Err, refl, sym, ap, ◌∙◌, subst, arith, inl, inr}
+use Rattle.std.proofs.Common.{◌≡◌, ◌⊎◌, ℕ, ◌+◌, ◌<◌, ◌≤◌, List, [], ◌∷◌, true, Option, Some, None, Ok, Err, refl, sym, ap, ◌∙◌, subst, arith, inl, inr}
 use Rattle.std.specs.Prelude.{min}
 use Rattle.fut_flat.specs.declared.prim.Ref.{Ref}
 use Rattle.fut_scalar.specs.declared.place.BindId.{BindId}
@@ -24,9 +24,9 @@ use Rattle.sizes_meet_rules.proofs.Chains.{Given, argument_by, arguments, arrows
 use Rattle.sizes_meet_rules.proofs.Fitting.{plain_arrows}
 use Rattle.sizes_meet_rules.proofs.Flat_types.{flat, flat_is}
 use Rattle.sizes_meet_rules.proofs.Lambdas.{Early_function, One_given, Waiting_fit, Lambda_result, Wants_formed}
-use Rattle.sizes_meet_rules.proofs.Meeting.{each_scoped, With_met, met_wider, Flat_wanted, Lambda_wanted, Lambda_typed, As_alone, Meets, inner_of}
+use Rattle.sizes_meet_rules.proofs.Meeting.{each_scoped, With_met, met_wider, Flat_wanted, Data_wanted, Lambda_wanted, Lambda_typed, As_alone, Meets, inner_of}
 use Rattle.sizes_meet_rules.proofs.Noting.{Placed, placed_order}
-use Rattle.sizes_meet_rules.proofs.Parts.{spine, Given_meets, Function_meets, given_in, Lambda_waits, All_given, One_waits, All_parts, Later_part, one_fit, all_fit}
+use Rattle.sizes_meet_rules.proofs.Parts.{spine, given_inner, Given_meets, given_wider, Function_meets, given_in, Lambda_waits, All_given, One_waits, All_parts, Later_part, one_fit, all_fit}
 
 -- ---- functions of these parameters
 
@@ -40,17 +40,29 @@ module _ (K : Kinds) where
   unfolding rank least
   no_function a b h = let z : 1 ≤ min 0 (min (rank K a) (min (rank K b) 4)) = h in omega (arith, z)
 
-  flat_wants : (types : Sub) (ps : Patterns Ref BindId) (q : ℕ) (t : Size) (u : Ty) → Wants_formed K t → erased t ≡ arrows (pattern_types types ps q) u → Flat_parameters types ps q → Flat_wanted types ps q t
+  flat_wants : (P : Free → Type 0) (types : Sub) (ps : Patterns Ref BindId) (q : ℕ) (t : Size) (u : Ty) → Wants_formed P K t → erased t ≡ arrows (pattern_types types ps q) u → Flat_parameters types ps q → Flat_wanted types ps q t
   unfolding erased all_erased Formed
-  flat_wants types no_pattern q t u f e h = tt
-  flat_wants types (pattern_and p ps) q (Fun k x r) u f e h =
+  flat_wants P types no_pattern q t u f e h = tt
+  flat_wants P types (pattern_and p ps) q (Fun k x r) u f e h =
       let y : fun_ty (erased x) (erased r) ≡ fun_ty (types q) (arrows (pattern_types types ps (q + pattern_numbers p)) u) = e in
       let same : erased x ≡ types q = cc in
-      ((h.0, flat_is x f.0 (subst Flat_type (sym same) h.0) ∙ ap flat same), flat_wants types ps (q + pattern_numbers p) r u f.1 (let z : erased r ≡ arrows (pattern_types types ps (q + pattern_numbers p)) u = cc in z) h.1)
-  flat_wants types (pattern_and p ps) q (Open m v w) u f e h = absurd (no_function (types q) (arrows (pattern_types types ps (q + pattern_numbers p)) u) (subst (λ x. 1 ≤ rank K x) e f))
-  flat_wants types (pattern_and p ps) q (Hole v) u f e h = absurd (let W = function_is (Hole v) (types q) (arrows (pattern_types types ps (q + pattern_numbers p)) u) f e in let z : Hole v ≡ Fun W.chosen W.from W.to = W.is_function in cc)
-  flat_wants types (pattern_and p ps) q (Level d t) u f e h = absurd (let W = function_is (Level d t) (types q) (arrows (pattern_types types ps (q + pattern_numbers p)) u) f e in let z : Level d t ≡ Fun W.chosen W.from W.to = W.is_function in cc)
-  flat_wants types (pattern_and p ps) q (Built k ts) u f e h = absurd (let W = function_is (Built k ts) (types q) (arrows (pattern_types types ps (q + pattern_numbers p)) u) f e in let z : Built k ts ≡ Fun W.chosen W.from W.to = W.is_function in cc)
+      ((h.0, flat_is x f.0.1 (subst Flat_type (sym same) h.0) ∙ ap flat same), flat_wants P types ps (q + pattern_numbers p) r u f.1 (let z : erased r ≡ arrows (pattern_types types ps (q + pattern_numbers p)) u = cc in z) h.1)
+  flat_wants P types (pattern_and p ps) q (Open m v w) u f e h = absurd (no_function (types q) (arrows (pattern_types types ps (q + pattern_numbers p)) u) (subst (λ x. 1 ≤ rank K x) e f))
+  flat_wants P types (pattern_and p ps) q (Hole v) u f e h = absurd (let W = function_is (Hole v) (types q) (arrows (pattern_types types ps (q + pattern_numbers p)) u) f e in let z : Hole v ≡ Fun W.chosen W.from W.to = W.is_function in cc)
+  flat_wants P types (pattern_and p ps) q (Level d t) u f e h = absurd (let W = function_is (Level d t) (types q) (arrows (pattern_types types ps (q + pattern_numbers p)) u) f e in let z : Level d t ≡ Fun W.chosen W.from W.to = W.is_function in cc)
+  flat_wants P types (pattern_and p ps) q (Built k ts) u f e h = absurd (let W = function_is (Built k ts) (types q) (arrows (pattern_types types ps (q + pattern_numbers p)) u) f e in let z : Built k ts ≡ Fun W.chosen W.from W.to = W.is_function in cc)
+
+  -- or of data
+  pub data_wants : (P : Free → Type 0) (types : Sub) (ps : Patterns Ref BindId) (q : ℕ) (t : Size) (u : Ty) → Wants_formed P K t → erased t ≡ arrows (pattern_types types ps q) u → Data_wanted types P ps q t
+  unfolding erased all_erased Formed
+  data_wants P types no_pattern q t u f e = tt
+  data_wants P types (pattern_and p ps) q (Fun k x r) u f e =
+      let y : fun_ty (erased x) (erased r) ≡ fun_ty (types q) (arrows (pattern_types types ps (q + pattern_numbers p)) u) = e in
+      ((f.0.0, f.0.1, f.0.2, (let z : erased x ≡ types q = cc in z)), data_wants P types ps (q + pattern_numbers p) r u f.1 (let z : erased r ≡ arrows (pattern_types types ps (q + pattern_numbers p)) u = cc in z))
+  data_wants P types (pattern_and p ps) q (Open m v w) u f e = absurd (no_function (types q) (arrows (pattern_types types ps (q + pattern_numbers p)) u) (subst (λ x. 1 ≤ rank K x) e f))
+  data_wants P types (pattern_and p ps) q (Hole v) u f e = absurd (let W = function_is (Hole v) (types q) (arrows (pattern_types types ps (q + pattern_numbers p)) u) f e in let z : Hole v ≡ Fun W.chosen W.from W.to = W.is_function in cc)
+  data_wants P types (pattern_and p ps) q (Level d t) u f e = absurd (let W = function_is (Level d t) (types q) (arrows (pattern_types types ps (q + pattern_numbers p)) u) f e in let z : Level d t ≡ Fun W.chosen W.from W.to = W.is_function in cc)
+  data_wants P types (pattern_and p ps) q (Built k ts) u f e = absurd (let W = function_is (Built k ts) (types q) (arrows (pattern_types types ps (q + pattern_numbers p)) u) f e in let z : Built k ts ≡ Fun W.chosen W.from W.to = W.is_function in cc)
 
 -- ---- what a lambda gives by itself, if it is not refused
 
@@ -84,17 +96,17 @@ module _ (N : Names) (types : Sub) (home : ℕ → ℕ) (K : Kinds) (places : Ki
   flat_parameters (pattern_and p ps) q u (inl k) = absurd (no_function K (types q) (arrows (pattern_types types ps (q + pattern_numbers p)) u) (omega (arith, data_places, k)))
   flat_parameters (pattern_and p ps) q u (inr h) = (h.0, flat_parameters ps (q + pattern_numbers p) u h.1)
 
-  lambda_kinds : (e : FlatTerm) (n : ℕ) (t : Size) → Is_lambda e → Flat_function types home K places (types n) → Lambda_typed types e n → Wants_formed K t → erased t ≡ types n → Lambda_wanted types e n t
-  lambda_kinds (Lambda (pattern_and p ps) e) n t i fl ty f z = flat_wants K types (pattern_and p ps) (1 + n) t (types (1 + n + all_pattern_numbers (pattern_and p ps))) f (z ∙ ty) (flat_parameters (pattern_and p ps) (1 + n) (types (1 + n + all_pattern_numbers (pattern_and p ps))) (inr (subst (Flat_function types home K places) ty fl)))
-  lambda_kinds (Lambda no_pattern e) n t i fl ty f z = absurd i
-  lambda_kinds (Use r at k) n t i fl ty f z = absurd i
-  lambda_kinds (Strict o mark ts) n t i fl ty f z = absurd i
-  lambda_kinds (Apply f e) n t i fl ty g z = absurd i
-  lambda_kinds (Let b v e) n t i fl ty f z = absurd i
-  lambda_kinds (If c a b) n t i fl ty f z = absurd i
-  lambda_kinds (Loop mark sizes p first turns body) n t i fl ty f z = absurd i
+  lambda_kinds : (P : Free → Type 0) (e : FlatTerm) (n : ℕ) (t : Size) → Is_lambda e → Flat_function types home K places (types n) → Lambda_typed types e n → Wants_formed P K t → erased t ≡ types n → Lambda_wanted types e n t
+  lambda_kinds P (Lambda (pattern_and p ps) e) n t i fl ty f z = flat_wants K P types (pattern_and p ps) (1 + n) t (types (1 + n + all_pattern_numbers (pattern_and p ps))) f (z ∙ ty) (flat_parameters (pattern_and p ps) (1 + n) (types (1 + n + all_pattern_numbers (pattern_and p ps))) (inr (subst (Flat_function types home K places) ty fl)))
+  lambda_kinds P (Lambda no_pattern e) n t i fl ty f z = absurd i
+  lambda_kinds P (Use r at k) n t i fl ty f z = absurd i
+  lambda_kinds P (Strict o mark ts) n t i fl ty f z = absurd i
+  lambda_kinds P (Apply f e) n t i fl ty g z = absurd i
+  lambda_kinds P (Let b v e) n t i fl ty f z = absurd i
+  lambda_kinds P (If c a b) n t i fl ty f z = absurd i
+  lambda_kinds P (Loop mark sizes p first turns body) n t i fl ty f z = absurd i
 
-  lambda_argument : (e : FlatTerm) (t : Ty) → Is_lambda e → Value_known N types home K places data_places In Vars scope e t
+  pub lambda_argument : (e : FlatTerm) (t : Ty) → Is_lambda e → Value_known N types home K places data_places In Vars scope e t
   lambda_argument (Lambda ps e) t i = tt
   lambda_argument (Use r at k) t i = absurd i
   lambda_argument (Strict o mark ts) t i = absurd i
@@ -125,11 +137,12 @@ module _ (N : Names) (types : Sub) (home : ℕ → ℕ) (K : Kinds) (places : Ki
     meets_alone : (m : Done Met) → alone ≡ Ok m → Meets N types home In Vars scope g.term g.node (g.node + numbers g.term) A (own_size alone) behind
     meets_alone m e = subst (λ (y : Answer (Done Met)). Meets N types home In Vars scope g.term g.node (g.node + numbers g.term) A (own_size y) (own_state A y)) (sym e) (L.waits.by_itself A m e)
 
-    given_meets : (m : Done Met) → alone ≡ Ok m → Given_meets N types home K places data_places In Vars scope now_sized A behind
-    given_meets m e =
+    given_meets : (hi : ℕ) → g.node + numbers g.term ≤ hi → (m : Done Met) → alone ≡ Ok m → Given_meets N types home K places data_places In Vars scope hi now_sized A behind
+    given_meets hi l m e =
         let M = meets_alone m e in
         let known = lambda_argument g.term (types g.node) L.waits.is_lambda in
-        record { value_is = inl L.value; inner = inner_of N types home In Vars scope g.term g.node (g.node + numbers g.term) A (own_size alone) behind M; noted = λ z. M.here; value_known = known }
+        given_wider N types home K places data_places In Vars scope (g.node + numbers g.term) hi now_sized A behind l
+        (record { value_is = inl L.value; inner = given_inner N types home K places data_places In Vars scope now_sized A behind (inner_of N types home In Vars scope g.term g.node (g.node + numbers g.term) A (own_size alone) behind M); noted = λ z. M.here; value_known = known })
 
     own_function : is_function (own_size alone) ≡ true
     own_function = by_answer alone refl
@@ -147,7 +160,7 @@ module _ (N : Names) (types : Sub) (home : ℕ → ℕ) (K : Kinds) (places : Ki
         record {
           given = record { waiting = waiting; waits = L.waits_is; value = L.value; named = L.named; is_fun = own_function };
           type = types g.node;
-          run = λ w σ m f e q. result w σ m (L.waits.as_wanted w σ A m (lambda_kinds g.term g.node w.size L.waits.is_lambda L.flat L.waits.typed_as f e) q);
+          run = λ w σ m f e q. result w σ m (L.waits.as_wanted w σ A m (lambda_kinds P g.term g.node w.size L.waits.is_lambda L.flat L.waits.typed_as f e) q);
         },
         refl,
         L.waits.of_function,
@@ -164,7 +177,7 @@ module _ (N : Names) (types : Sub) (home : ℕ → ℕ) (K : Kinds) (places : Ki
                   formed = M.says.formed;
                   sizes = each_scoped (With_met In g.node (g.node + numbers g.term)) P wide (own_size alone) 0 M.says.sizes;
                   variables = M.says.variables;
-                  arrows = plain_arrows types home K places data_places (own_size alone) M.says.formed (inr (subst (Flat_function types home K places) (sym M.typed) L.flat));
+                  arrows = plain_arrows types home K places data_places P (own_size alone) M.says.formed (inr (subst (Flat_function types home K places) (sym M.typed) L.flat));
                 };
                 typed = M.typed;
                 met = ap (λ t. meet w.node (function_way w.is_regular) g.node none_opened w.size none_opened t σ) size_is ∙ S.met;
@@ -233,15 +246,15 @@ module _ (N : Names) (types : Sub) (home : ℕ → ℕ) (K : Kinds) (places : Ki
   sized_widths (g ∷ gs) st A (inr (inr h)) (Built b ts) w = tt
 
   -- data is sized where it stands
-  pub data_parts : (B : State) (A0 : State) (gs : List Given) (st A : State) → Given_there gs st A → All_parts N types home K places data_places In Vars scope A0 B gs st A
-  data_parts B A0 [] st A h = h
-  data_parts B A0 (g ∷ gs) st A h = (h.0, (inl (h.1.0.0, h.1.0.1.1), data_parts B A0 gs h.0 A h.1.1))
+  pub data_parts : (hi : ℕ) (B : State) (A0 : State) (gs : List Given) (st A : State) → Given_there gs st A → All_parts N types home K places data_places In Vars scope hi A0 B gs st A
+  data_parts hi B A0 [] st A h = h
+  data_parts hi B A0 (g ∷ gs) st A h = (h.0, (inl (h.1.0.0, h.1.0.1.1), data_parts hi B A0 gs h.0 A h.1.1))
 
-  pub one_parts : (gs : List Given) (st A : State) (h : One_there gs st A) → Went_by gs st A h → All_parts N types home K places data_places In Vars scope A (state_by gs st A h) (sized_by gs st A h) st A
-  one_parts [] st A h w = absurd h
-  one_parts (g ∷ gs) st A (inl h) w = (h.0, (inl (h.1.0.0, h.1.0.1.1), one_parts gs h.0 A h.1.1 w))
-  one_parts (g ∷ gs) st A (inr (inr h)) w = (h.0, (inl (h.1.0.0, h.1.0.1.1), data_parts A A gs h.0 A h.1.1))
-  one_parts (g ∷ gs) st A (inr (inl h)) w = (st, (inr (given_meets g h.0 A w.0 w.1, refl), data_parts (behind g h.0 A) A gs st A h.1))
+  pub one_parts : (from hi : ℕ) (gs : List Given) (st A : State) (h : One_there gs st A) → Placed gs from hi → Went_by gs st A h → All_parts N types home K places data_places In Vars scope hi A (state_by gs st A h) (sized_by gs st A h) st A
+  one_parts from hi [] st A h p w = absurd h
+  one_parts from hi (g ∷ gs) st A (inl h) p w = (h.0, (inl (h.1.0.0, h.1.0.1.1), one_parts (from + numbers g.term) hi gs h.0 A h.1.1 p.1 w))
+  one_parts from hi (g ∷ gs) st A (inr (inr h)) p w = (h.0, (inl (h.1.0.0, h.1.0.1.1), data_parts hi A A gs h.0 A h.1.1))
+  one_parts from hi (g ∷ gs) st A (inr (inl h)) p w = (st, (inr (given_meets g h.0 A hi (let y = p.0 in let z = placed_order gs (from + numbers g.term) hi p.1 in omega (arith, y, z)) w.0 w.1, refl), data_parts hi (behind g h.0 A) A gs st A h.1))
 
   -- nothing waits
   pub none_later : (A : State) (gs : List Given) → Later_part N types home K places data_places In Vars scope A A gs
@@ -283,9 +296,9 @@ module _ (N : Names) (types : Sub) (home : ℕ → ℕ) (K : Kinds) (places : Ki
       is_fun = ap is_function S.is_function;
       says = record {
         formed = m.0.inner.says.formed;
-        sizes = given_in N types home K places data_places In Vars scope lo first hi E from_lo g st mid m.0 l l';
+        sizes = given_in N types home K places data_places In Vars scope lo first hi E from_lo (g.node + numbers g.term) g st mid m.0 l l';
         variables = m.0.inner.says.variables;
-        arrows = plain_arrows types home K places data_places g.size m.0.inner.says.formed (inr (subst (Flat_function types home K places) (sym m.0.inner.typed) m.1.0));
+        arrows = plain_arrows types home K places data_places P g.size m.0.inner.says.formed (inr (subst (Flat_function types home K places) (sym m.0.inner.typed) m.1.0));
       };
       typed = m.0.inner.typed;
       from = F.0;

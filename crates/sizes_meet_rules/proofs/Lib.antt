@@ -20,6 +20,7 @@ pub mod Heading
 pub mod Entering
 pub mod Functions
 pub mod Parameters
+pub mod Finding
 pub mod Bound
 pub mod Turning
 pub mod Looping
@@ -29,6 +30,7 @@ pub mod Chains
 pub mod Filling
 pub mod Alike
 pub mod Fitting
+pub mod Coming
 pub mod Lambdas
 pub mod Primitives
 pub mod Heads
@@ -36,10 +38,12 @@ pub mod Noting
 pub mod Parts
 pub mod Spines
 pub mod Later
+pub mod Wide
 pub mod Applied
 pub mod Letting
 pub mod Wanting
 pub mod Walking
+pub mod Declaring
 pub mod Defining
 pub mod Law
 mod Unmet

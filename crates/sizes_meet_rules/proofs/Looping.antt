@@ -41,7 +41,7 @@ use Rattle.sizes_meet_rules.proofs.Taking.{pattern_some, head_same, parts_same, 
 use Rattle.sizes_meet_rules.proofs.Turning.{missing_most, erased_lacking, formed_lacking, data_lacking, variables_lacking, sizes_lacking, Turned, turned}
 
 -- a sized type of a scalar
-scalar_is : (t : Size) (c : ScalarType) → Formed t → erased t ≡ scalar_ty c → t ≡ Built (head.Scalar c) no_size
+pub scalar_is : (t : Size) (c : ScalarType) → Formed t → erased t ≡ scalar_ty c → t ≡ Built (head.Scalar c) no_size
 unfolding Formed erased all_erased
 scalar_is (Hole (Inferred v)) c f e = absurd (let z : Var v ≡ Made (head.Scalar c) none = e in cc)
 scalar_is (Hole (Written b k)) c f e = absurd (let z : head.Rigid b k ≡ head.Scalar c = head_same e in cc)

@@ -1,5 +1,5 @@
 -- What is proved of each term: what its sized type says, which nodes are noted, and that they meet the rules.
-use Rattle.std.proofs.Common.{◌≡◌, ◌⊎◌, ℕ, zero, suc, ◌+◌, ◌<◌, ◌≤◌, List, ◌∷◌, Bool, false, cond, Option, Some, None, Ok, Err, refl, sym, ap, ◌∙◌, subst, arith, inl, inr, eq-eqb}
+use Rattle.std.proofs.Common.{◌≡◌, ◌⊎◌, ℕ, zero, suc, ◌+◌, ◌<◌, ◌≤◌, List, ◌∷◌, Bool, true, false, ◌||◌, cond, Option, Some, None, Ok, Err, refl, sym, ap, ◌∙◌, subst, arith, inl, inr, eq-eqb}
 use Rattle.std.proofs.lemmas.Bool.{ne_eqb}
 use Rattle.fut_scalar.specs.declared.place.BindId.{BindId}
 use Rattle.fut_flat.specs.declared.prim.Ref.{Ref}
@@ -10,6 +10,7 @@ use Rattle.fut_types.specs.Types.{Ty, fun_ty, Sub}
 use Rattle.fut_typing.specs.Names.{Names}
 use Rattle.fut_typing.specs.Patterns.{pattern_types, arrows}
 use Rattle.sized_types.specs.Sizes.{Free, Const, Name, Own, Unknown, Slot, Dim, At, Bound, Variable, Inferred, Size, Hole, Fun, erased}
+use Rattle.sized_types.specs.Standing.{stands}
 use Rattle.fut_sizes.specs.Agreeing.{Refusal, Answer, then_do}
 use Rattle.fut_sizes.specs.Applications.{Want, Met, Argument, Part, Applied, Waiting, whole}
 use Rattle.fut_sizes.specs.Functions.{is_slot}
@@ -19,8 +20,8 @@ use Rattle.fut_sizes.specs.Scopes.{Scope}
 use Rattle.fut_sizes.specs.Scoping.{Context}
 use Rattle.fut_sizes.specs.Sizing.{finished}
 use Rattle.fut_sizes.specs.Steps.{State, Done, Step, ask, at_node}
-use Rattle.fut_sizes.specs.Suiting.{Each, Scoped}
-use Rattle.sizes_meet_rules.specs.Known.{Says, Is_const, Judged, Elsewhere}
+use Rattle.fut_sizes.specs.Suiting.{Each, Scoped, Data}
+use Rattle.sizes_meet_rules.specs.Known.{Formed, Says, Is_const, Judged, Elsewhere}
 use Rattle.sizes_meet_rules.specs.Plain.{Flat_type, Is_lambda}
 use Rattle.sizes_meet_rules.proofs.Flat_types.{flat}
 use Rattle.sizes_meet_rules.proofs.Replacing.{each_as, hole_as}
@@ -137,6 +138,36 @@ module _ (types : Sub) where
   Lambda_wanted (Lambda ps e) lo t = Flat_wanted ps (1 + lo) t
   Lambda_wanted e lo t = ⊥
 
+  -- a function type of these parameters, which are data of these sizes
+  abbrev pub Data_wanted : (Free → Type 0) → Patterns Ref BindId → ℕ → Size → Type 0
+  Data_wanted P no_pattern q t = Unit {0}
+  Data_wanted P (pattern_and p ps) q (Fun k t r) = (Data t × Formed t × Each (Scoped P) 0 t × (erased t ≡ types q)) × Data_wanted P ps (q + pattern_numbers p) r
+  Data_wanted P ps q t = ⊥
+
+  abbrev pub Data_lambda : (Free → Type 0) → FlatTerm → ℕ → Size → Type 0
+  Data_lambda P (Lambda ps e) lo t = Data_wanted P ps (1 + lo) t
+  Data_lambda P e lo t = ⊥
+
+-- it stands in what is wanted of a parameter
+abbrev pub stands_wanted : Patterns Ref BindId → Size → Free → Bool
+stands_wanted no_pattern t d = false
+stands_wanted (pattern_and p ps) (Fun k x r) d = stands x d || stands_wanted ps r d
+stands_wanted ps t d = false
+
+abbrev pub Stands_lambda : FlatTerm → Size → Free → Type 0
+Stands_lambda (Lambda ps e) t d = stands_wanted ps t d ≡ true
+Stands_lambda e t d = ⊥
+
+-- the parameters of the first are those of the second
+abbrev pub Same_parameters : Patterns Ref BindId → Size → Size → Type 0
+Same_parameters no_pattern w t = Unit {0}
+Same_parameters (pattern_and p ps) (Fun k x r) (Fun zero y s) = (y ≡ x) × Same_parameters ps r s
+Same_parameters ps w t = ⊥
+
+abbrev pub Same_lambda : FlatTerm → Size → Size → Type 0
+Same_lambda (Lambda ps e) w t = Same_parameters ps w t
+Same_lambda e w t = ⊥
+
 module _ (N : Names) (types : Sub) (home : ℕ → ℕ) where
   abbrev pub In_nodes : ℕ → ℕ → Free → Type 0
   In_nodes lo hi d = Inside N types (λ n. Hole (Inferred n)) home lo hi d
@@ -159,6 +190,10 @@ module _ (N : Names) (types : Sub) (home : ℕ → ℕ) where
 
   pub elsewhere_narrower : (lo hi lo' hi' : ℕ) (In : Free → Type 0) → lo ≤ lo' → hi' ≤ hi → Elsewhere N types home lo hi In → Elsewhere N types home lo' hi' In
   elsewhere_narrower lo hi lo' hi' In l l' E = record { no_slot = E.no_slot; outside = λ d i o. E.outside d i (inside_wider lo' hi' lo hi l l' d o) }
+
+  -- made at none of these nodes
+  abbrev pub Around : ℕ → ℕ → Free → Type 0
+  Around lo hi d = (is_slot d ≡ false) × (In_nodes lo hi d → ⊥)
 
   pub met_settled : (In : Free → Type 0) (from to lo hi : ℕ) → Elsewhere N types home from to In → (d : Free) → With_met In lo hi d → is_slot d ≡ false
   met_settled In from to lo hi E d (inl i) = E.no_slot d i
@@ -201,6 +236,25 @@ module _ (N : Names) (types : Sub) (home : ℕ → ℕ) where
       pub known_sizes : (before : State) (m : Done Met) → waiting None nothing_found before ≡ Ok m → Each (Scoped (λ d. In d ⊎ Is_const d)) 0 m.result.size
       pub by_itself : (before : State) (m : Done Met) → waiting None nothing_found before ≡ Ok m → Meets e lo hi before m.result.size m.state
       pub as_wanted : (w : Want) (σ : Found) (before : State) (m : Done Met) → Lambda_wanted types e lo w.size → waiting (Some w) σ before ≡ Ok m → As_alone waiting lo w σ before m
+
+    -- a lambda that takes the parameters that are wanted of it
+    pub record Wide_ran (e : FlatTerm) (lo hi : ℕ) (w : Want) (σ : Found) (before : State) (m : Done Met) : Type 0 where
+      pub says : Says (λ d. With_met In lo hi d ⊎ Stands_lambda e w.size d) Vars m.result.size
+      pub typed : erased m.result.size ≡ types lo
+      pub here : m.state.nodes lo ≡ m.result.size
+      pub kept : (n : ℕ) → (n < lo) ⊎ (hi ≤ n) → m.state.nodes n ≡ before.nodes n
+      pub dropped : (n : ℕ) → (n < lo) ⊎ (hi ≤ n) → m.state.dropped n ≡ before.dropped n
+      pub rules : (s : ℕ → Size) (G : Context) → Judged In Vars scope G → ((n : ℕ) → lo ≤ n → n < hi → s n ≡ m.state.nodes n) → Sized N types s home e lo G
+      pub parameters : Same_lambda e w.size m.result.size
+      pub met : meet w.node (function_way w.is_regular) lo none_opened w.size none_opened m.result.size σ ≡ Ok m.result.found
+
+    pub record Waits_wide (e : FlatTerm) (lo hi : ℕ) (st : State) (part : Part) (after : State) : Type 0 where
+      pub waiting : Option Want → Found → Step Met
+      pub is_waiting : part ≡ Waiting waiting
+      pub unchanged : after ≡ st
+      pub of_function : (p : Ty) × ((r : Ty) × (types lo ≡ fun_ty p r))
+      pub typed_as : Lambda_typed types e lo
+      pub as_wanted : (w : Want) (σ : Found) (before : State) (m : Done Met) → Data_lambda types (Around lo hi) e lo w.size → waiting (Some w) σ before ≡ Ok m → Wide_ran e lo hi w σ before m
 
     -- a function whose arguments wait to be matched
     pub record Is_applied (e : FlatTerm) (lo hi : ℕ) (st : State) (part : Part) (after : State) : Type 0 where

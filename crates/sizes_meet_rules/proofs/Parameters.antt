@@ -14,15 +14,15 @@ use Rattle.fut_typing.specs.Typing.{Typed}
 use Rattle.sized_types.specs.Sizes.{Free, Const, Name, Own, Unknown, Slot, Dim, At, Bound, Variable, Size, Hole, Open, Level, Built, Fun, Sizes, no_size, size_and, has, some_has, erased, all_erased, bound, binding, renaming, renamed, takes}
 use Rattle.sized_types.specs.Standing.{stands}
 use Rattle.fut_sizes.specs.Agreeing.{left, leave, names_one, is_among}
-use Rattle.fut_sizes.specs.Functions.{value_name, stands_among, sizes_in, is_own, is_met, is_slot, arrow, function_size, without, unchosen}
+use Rattle.fut_sizes.specs.Functions.{chosen_by, value_name, stands_among, sizes_in, is_own, is_met, is_slot, arrow, function_size, without, unchosen}
 use Rattle.fut_sizes.specs.Rules.{Each_hole, Pattern_takes, Telling, Takes, Sized}
 use Rattle.fut_sizes.specs.Scopes.{Scope, i64_size, names}
-use Rattle.fut_sizes.specs.Sizing.{part_names, all_part_names}
+use Rattle.fut_sizes.specs.Sizing.{in_pattern, own_sizes, part_names, all_part_names}
 use Rattle.fut_sizes.specs.Scoping.{Context, with_positions, with_pattern}
 use Rattle.fut_sizes.specs.Steps.{State}
 use Rattle.fut_sizes.specs.Suiting.{Each, Each_all, Scoped}
 use Rattle.sizes_meet_rules.specs.Known.{is_i64_size, Known_names, Is_const, Elsewhere, Formed}
-use Rattle.sizes_meet_rules.specs.Plain.{Plain_pattern, Plain_parts, Plain_patterns, Plain_head, Formed_type}
+use Rattle.sizes_meet_rules.specs.Plain.{Plain_pattern, Plain_parts, Plain_patterns, parameter, Plain_head, Formed_type}
 use Rattle.sizes_meet_rules.proofs.Arrows.{Is_value, Headed, chosen_stands, value_is, bound_low, frame, frame_chosen, position, May_stand, arrow_back, arrow_scoped, binder, owned_here, standing_own}
 use Rattle.sizes_meet_rules.proofs.Binding.{Leaves, left_name}
 use Rattle.sizes_meet_rules.proofs.Entering.{Lacks, param, Param_says, Written_in, All_written_in, param_says, param_data, takings, all_bound, All_fit, Own_nodes}
@@ -32,7 +32,7 @@ use Rattle.sizes_meet_rules.proofs.Forming.{no_sizes_before, number_replaced, re
 use Rattle.sizes_meet_rules.proofs.Functions.{no_value, Unknown_met, Unmet, met_unknown, none_met, Entered_in, entered_may, last_may, entered_judged, tells}
 use Rattle.sizes_meet_rules.proofs.Meeting.{In_nodes, Met_in, With_met, met_wider, each_scoped, inside_wider, elsewhere_narrower, Meets}
 use Rattle.sizes_meet_rules.proofs.Naming.{Named_by, each_stands, named_there, known_with, known_wider, With_head, Judged_but, judged_all}
-use Rattle.sizes_meet_rules.proofs.Listing.{none_listed, without_or, without_among}
+use Rattle.sizes_meet_rules.proofs.Listing.{listed_is, none_listed, without_or, without_among}
 use Rattle.sizes_meet_rules.proofs.Taking.{pattern_some, Has_parts, bound_scope, not_bound, Nodes, first_node, among_first, among_later, takes_it}
 use Rattle.sizes_meet_rules.proofs.Replacing.{each_as, each_both, each_replaced, erased_replaced, hole_replaced, hole_as}
 
@@ -56,16 +56,34 @@ module _ (q : Dim → Bool) where
     all_lack no_size j e = tt
     all_lack (size_and t ts) j e = let w = either (has q t) (some_has q ts) e in (each_lacks t j w.0, all_lack ts j w.1)
 
-module _ (N : Names) (types : Sub) (home : ℕ → ℕ) (K : Kinds) (places : Kind) (data_places : 1 ≤ level places) where
-  -- ---- the sized type of a parameter by itself
+-- parameters as sized types come to their nodes: a parameter's own, or one of these sizes
+module _ (N : Names) (types : Sub) (home : ℕ → ℕ) (K : Kinds) (places : Kind) (data_places : 1 ≤ level places) (come : ℕ → Size) (W : Free → Type 0) where
+  -- ---- the sized type of a parameter
   abbrev own : FlatPattern → ℕ → Size
-  own p q = param N types home K places p q
+  own p q = param N types home K places come p q
+
+  abbrev pub Comes : FlatPattern → ℕ → Type 0
+  Comes p q = (come q ≡ own_sizes N types q) ⊎ Param_says N types home K places W q (own p q)
+
+  abbrev pub All_come : Patterns Ref BindId → ℕ → Type 0
+  All_come no_pattern q = Unit {0}
+  All_come (pattern_and p ps) q = Comes p q × All_come ps (q + pattern_numbers p)
+
+  -- the size names of a head
+  abbrev pub Come_head : List ℕ → Patterns Ref BindId → ℕ → Type 0
+  Come_head bs no_pattern q = Unit {0}
+  Come_head bs (pattern_and p ps) q = Headed home bs p q (own p q) × Come_head (without (sizes_in (is_own bs q) (own p q)) bs) ps (q + pattern_numbers p)
+
+  pub none_headed : (ps : Patterns Ref BindId) (q : ℕ) → Come_head [] ps q
+  none_headed no_pattern q = tt
+  none_headed (pattern_and p ps) q = (record { apart = λ b e. refl; at_home = λ b e. absurd (let z : false ≡ true = listed_is (is_own [] q) (own p q) (Name b) e in cc) }, none_headed ps (q + pattern_numbers p))
 
   abbrev Own_or_known : List ℕ → (Free → Type 0) → ℕ → Free → Type 0
   Own_or_known bs In q x = (is_own bs q x ≡ true) ⊎ (In x ⊎ Is_const x)
 
-  own_says : (bs : List ℕ) (In : Free → Type 0) (p : FlatPattern) (q : ℕ) → Plain_pattern types home K places p q → Formed_type (types q) → Written_in N types home K places (Own_or_known bs In q) p → Param_says N types home K places (Own_or_known bs In q) q (own p q)
-  own_says bs In p q h f w = param_says N types home K places (Own_or_known bs In q) (λ c. inr (inr tt)) p q h f (λ i. inl (eq-eqb q q refl)) w
+  own_says : (bs : List ℕ) (In : Free → Type 0) (p : FlatPattern) (q : ℕ) → Comes p q → ((d : Free) → W d → In d) → Plain_pattern types home K places p q → Formed_type (types q) → Written_in N types home K places (Own_or_known bs In q) p → Param_says N types home K places (Own_or_known bs In q) q (own p q)
+  own_says bs In p q (inl e) i h f w = subst (λ t. Param_says N types home K places (Own_or_known bs In q) q (in_pattern N types p t)) (sym e) (param_says N types home K places (Own_or_known bs In q) (λ c. inr (inr tt)) p q h f (λ i. inl (eq-eqb q q refl)) w)
+  own_says bs In p q (inr o) i h f w = record { sizes = each_scoped W (Own_or_known bs In q) (λ d y. inr (inl (i d y))) (own p q) 0 o.sizes; typed = o.typed; formed = o.formed; variables = o.variables }
 
   own_stands : (bs : List ℕ) (In : Free → Type 0) (p : FlatPattern) (q : ℕ) → Param_says N types home K places (Own_or_known bs In q) q (own p q) → HasKind K places (types q) → Each (Scoped (λ x. stands (own p q) x ≡ true)) 0 (own p q)
   own_stands bs In p q o k = each_stands (Own_or_known bs In q) (λ x. stands (own p q) x ≡ true) (own p q) (param_data N types home K places (own p q) q data_places k o.formed o.typed) o.sizes (λ x e. e)
@@ -94,7 +112,7 @@ module _ (N : Names) (types : Sub) (home : ℕ → ℕ) (K : Kinds) (places : Ki
   module _ (e : FlatTerm) (lo at hi : ℕ) (l3 : at < hi) (parts : List ℕ) (u r : Size) (L : Leaves lo parts u r) (before after : State) (Vars : Variable → Type 0) (final : Scope)
       (body : (In : Free → Type 0) (scope : Scope) (T : TypeScope) → Typed N places e at T K types → Known_names In Vars home scope K types T → Elsewhere N types home at hi In → scope ≡ final → Meets N types home In Vars scope e at hi before u after) where
     abbrev size_from : List ℕ → Patterns Ref BindId → ℕ → Size
-    size_from bs ps q = function_size bs lo hi (takings N types home K places ps q) r
+    size_from bs ps q = function_size bs lo hi (takings N types home K places come ps q) r
 
     -- the name of no part of an argument
     abbrev No_part_of : Free → Type 0
@@ -118,7 +136,7 @@ module _ (N : Names) (types : Sub) (home : ℕ → ℕ) (K : Kinds) (places : Ki
       pub here : after.nodes at ≡ u
       pub kept : (n : ℕ) → (n < at) ⊎ (hi ≤ n) → after.nodes n ≡ before.nodes n
       pub dropped : (n : ℕ) → (n < at) ⊎ (hi ≤ n) → after.dropped n ≡ before.dropped n
-      pub rules : (s : ℕ → Size) (G : Context) → Judged_but bs In Vars scope G → Own_nodes N types home K places ps q s → ((n : ℕ) → at ≤ n → n < hi → s n ≡ after.nodes n) → Takes N types s home (Sized N types s home e at) parts ps lo q at hi (size_from bs ps q) G
+      pub rules : (s : ℕ → Size) (G : Context) → Judged_but bs In Vars scope G → Own_nodes N types home K places come ps q s → ((n : ℕ) → at ≤ n → n < hi → s n ≡ after.nodes n) → Takes N types s home (Sized N types s home e at) parts ps lo q at hi (size_from bs ps q) G
 
     -- a size leaves as it is, or as an unknown
     left_as : (x : Free) → ((j : ℕ) × (leave lo parts x ≡ Unknown lo j)) ⊎ ((leave lo parts x ≡ x) × No_part_of x)
@@ -243,7 +261,7 @@ module _ (N : Names) (types : Sub) (home : ℕ → ℕ) (K : Kinds) (places : Ki
           may : Each (Scoped (May_be met)) 0 t
           may = each_scoped (λ x. May_be met x × No_part_of x) (May_be met) (λ x w. w.0) t 0 m
 
-          rules : (s : ℕ → Size) (G : Context) → Judged_but bs In Vars scope G → Own_nodes N types home K places (pattern_and p ps) q s → ((n : ℕ) → at ≤ n → n < hi → s n ≡ after.nodes n) → Takes N types s home (Sized N types s home e at) parts (pattern_and p ps) lo q at hi (size_from bs (pattern_and p ps) q) G
+          rules : (s : ℕ → Size) (G : Context) → Judged_but bs In Vars scope G → Own_nodes N types home K places come (pattern_and p ps) q s → ((n : ℕ) → at ≤ n → n < hi → s n ≡ after.nodes n) → Takes N types s home (Sized N types s home e at) parts (pattern_and p ps) lo q at hi (size_from bs (pattern_and p ps) q) G
           rules s G judged own_nodes a = subst (λ w. Takes N types s home (Sized N types s home e at) parts (pattern_and p ps) lo q at hi w G) (sym shape) (
             binder N types home K places lo at hi q p plain In E l2 (omega (arith, l3)) bs (own p q) o.sizes (own_stands bs In p q o k) head met mets E0 s (at_parameter s own_nodes.0) (subst (λ w. Pattern_takes N types s home (λ d. d) p q w) (sym (at_parameter s own_nodes.0)) (takes_it types home K places N s (λ d. d) (λ d. refl) p q plain (own p q) parts_there own_nodes.0)) t may,
             ap (has (names_one parts)) (at_parameter s own_nodes.0) ∙ lacks,
@@ -402,10 +420,10 @@ module _ (N : Names) (types : Sub) (home : ℕ → ℕ) (K : Kinds) (places : Ki
       next_parameter (pattern_and p2 ps) R = earlier_parameter p2 ps R
 
     -- all parameters, which choose all names of the head
-    pub all_rest : (ps : Patterns Ref BindId) (bs : List ℕ) (q : ℕ) (In : Free → Type 0) (scope : Scope) (T : TypeScope) → q + all_pattern_numbers ps ≡ at → lo < q → Plain_patterns types home K places ps q → Plain_head types home K places N bs ps q → unchosen bs (takings N types home K places ps q) ≡ []
-        → ((b : ℕ) → is_among bs b ≡ true → scope b ≡ Some (record { size = i64_size; is_general = false })) → Parameters_typed N places K types ps q T → All_fit N types home K places ps q → Unmet lo hi In → Lacks parts (takings N types home K places ps q) → ((b : ℕ) → is_among (all_part_names ps) b ≡ true → is_among parts b ≡ true) → Typed N places e at (all_typed_with the_one ps q T) K types
-        → Known_names (With_head bs In) Vars home scope K types T → Elsewhere N types home q hi In → Elsewhere N types home lo (1 + lo) In → all_bound N types home K places ps q scope ≡ final → Rest bs ps q In scope
-    all_rest no_pattern bs q In scope T m l plain hd none_left heads fits parts_there unmet lacks among t known E E0 z = subst (λ n. Rest bs no_pattern n In scope) (let y : at ≡ q = omega (arith, m) in y)
+    pub all_rest : (ps : Patterns Ref BindId) (bs : List ℕ) (q : ℕ) (In : Free → Type 0) (scope : Scope) (T : TypeScope) → q + all_pattern_numbers ps ≡ at → lo < q → Plain_patterns types home K places ps q → Come_head bs ps q → All_come ps q → ((d : Free) → W d → In d) → unchosen bs (takings N types home K places come ps q) ≡ []
+        → ((b : ℕ) → is_among bs b ≡ true → scope b ≡ Some (record { size = i64_size; is_general = false })) → Parameters_typed N places K types ps q T → All_fit N types home K places come ps q → Unmet lo hi In → Lacks parts (takings N types home K places come ps q) → ((b : ℕ) → is_among (all_part_names ps) b ≡ true → is_among parts b ≡ true) → Typed N places e at (all_typed_with the_one ps q T) K types
+        → Known_names (With_head bs In) Vars home scope K types T → Elsewhere N types home q hi In → Elsewhere N types home lo (1 + lo) In → all_bound N types home K places come ps q scope ≡ final → Rest bs ps q In scope
+    all_rest no_pattern bs q In scope T m l plain hd come_there wide none_left heads fits parts_there unmet lacks among t known E E0 z = subst (λ n. Rest bs no_pattern n In scope) (let y : at ≡ q = omega (arith, m) in y)
         (subst (λ xs. Rest xs no_pattern at In scope) (sym none_left) (last_rest In scope T t no_head_known (elsewhere_narrower N types home q hi at hi In (omega (arith, m)) (omega arith) E) z (omega (arith, m, l))))
       where
         no_head : (xs : List ℕ) → xs ≡ [] → (x : Free) → With_head xs In x → In x
@@ -418,15 +436,26 @@ module _ (N : Names) (types : Sub) (home : ℕ → ℕ) (K : Kinds) (places : Ki
 
         no_head_known : Known_names In Vars home scope K types T
         no_head_known b u a = known_wider N types K places In Vars home (With_head bs In) Vars (no_head bs none_left) (λ v i. i) scope b u (known b u a)
-    all_rest (pattern_and p ps) bs q In scope T m l (plain, f, k, rest) hd none_left heads fits parts_there unmet lacks among t known E E0 z =
+    all_rest (pattern_and p ps) bs q In scope T m l (plain, f, k, rest) hd come_there wide none_left heads fits parts_there unmet lacks among t known E E0 z =
         let n = pattern_some p in
         let l2 : q < at = omega (arith, m, n) in
         let l2' : q + pattern_numbers p ≤ at = omega (arith, m) in
         let first : (b : ℕ) → is_among (part_names p) b ≡ true → is_among parts b ≡ true = λ b e. among b (among_first (part_names p) (all_part_names ps) b e) in
-        let head : Headed home bs p q (own p q) = record { apart = hd.0.apart; at_home = hd.0.at_home } in
-        let o = own_says bs In p q plain f (written_known bs In Vars scope T known p q q plain fits.0) in
+        let head : Headed home bs p q (own p q) = hd.0 in
+        let o = own_says bs In p q come_there.0 wide plain f (written_known bs In Vars scope T known p q q plain fits.0) in
         next_parameter bs p q plain k In scope head heads o parts_there.0 unmet lacks.0 first l l2 l2' E E0 ps
-        (all_rest ps (later bs p q plain k In scope head heads o parts_there.0 unmet lacks.0 first l l2 l2' E E0) (q + pattern_numbers p) (In' bs p q plain k In scope head heads o parts_there.0 unmet lacks.0 first l l2 l2' E E0) (bound_scope N p (own p q) scope) (typed_with the_one p q T) (omega (arith, m)) (omega (arith, l)) rest hd.1 none_left
+        (all_rest ps (later bs p q plain k In scope head heads o parts_there.0 unmet lacks.0 first l l2 l2' E E0) (q + pattern_numbers p) (In' bs p q plain k In scope head heads o parts_there.0 unmet lacks.0 first l l2 l2' E E0) (bound_scope N p (own p q) scope) (typed_with the_one p q T) (omega (arith, m)) (omega (arith, l)) rest hd.1 come_there.1 (λ d i. inl (wide d i)) none_left
         (heads_behind bs p q plain k In scope head heads o parts_there.0 unmet lacks.0 first l l2 l2' E E0) fits.1 parts_there.1 (unmet_behind bs p q plain k In scope head heads o parts_there.0 unmet lacks.0 first l l2 l2' E E0)
         lacks.1 (λ b e. among b (among_later (part_names p) (all_part_names ps) b e)) t
         (known_behind bs p q plain k In scope head heads o parts_there.0 unmet lacks.0 first l l2 l2' E E0 T fits.0 known) (behind bs p q plain k In scope head heads o parts_there.0 unmet lacks.0 first l l2 l2' E E0) (before_it bs p q plain k In scope head heads o parts_there.0 unmet lacks.0 first l l2 l2' E E0) z)
+
+-- ---- by itself a parameter has its own sizes
+
+module _ (N : Names) (types : Sub) (home : ℕ → ℕ) (K : Kinds) (places : Kind) (data_places : 1 ≤ level places) (W : Free → Type 0) where
+  pub own_head : (ps : Patterns Ref BindId) (bs : List ℕ) (q : ℕ) → Plain_head types home K places N bs ps q → Come_head N types home K places data_places (own_sizes N types) W bs ps q
+  own_head no_pattern bs q h = tt
+  own_head (pattern_and p ps) bs q h = (record { apart = h.0.apart; at_home = h.0.at_home }, own_head ps (without (chosen_by bs (parameter types home K places N p q)) bs) (q + pattern_numbers p) h.1)
+
+  pub own_come : (ps : Patterns Ref BindId) (q : ℕ) → All_come N types home K places data_places (own_sizes N types) W ps q
+  own_come no_pattern q = tt
+  own_come (pattern_and p ps) q = (inl refl, own_come ps (q + pattern_numbers p))

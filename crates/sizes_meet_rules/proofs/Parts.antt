@@ -4,14 +4,14 @@ use Rattle.std.specs.Prelude.{length}
 use Rattle.std.proofs.lemmas.Bool.{ne_eqb}
 use Rattle.fut_flat.specs.declared.prim.Ref.TheVariants as ref
 use Rattle.fut_flat.specs.Numbers.{numbers}
-use Rattle.fut_flat.specs.Terms.{Integer, Use, Strict, Apply, no_term}
+use Rattle.fut_flat.specs.Terms.{no_pattern, pattern_and, Integer, Use, Strict, Lambda, Apply, Let, If, Loop, no_term}
 use Rattle.fut_flat.specs.Erased.{FlatTerm}
 use Rattle.fut_types.specs.declared.Kind.{Kind}
 use Rattle.fut_types.specs.Types.{Ty, fun_ty, Sub, Kinds, HasKind, level}
 use Rattle.fut_typing.specs.Names.{Names}
 use Rattle.sized_types.specs.Sizes.{Free, Const, Name, Own, Unknown, Slot, Variable, Size, Hole, Open, Level, Built, Fun, erased, replaced, opened}
 use Rattle.fut_sizes.specs.Agreeing.{fits_i64}
-use Rattle.fut_sizes.specs.Applications.{Early, Part, named_value, with_use, uses}
+use Rattle.fut_sizes.specs.Applications.{Early, Part, is_function, named_value, with_use, uses}
 use Rattle.fut_sizes.specs.Functions.{is_slot, unknown_slot}
 use Rattle.fut_sizes.specs.Matching.{Found, Opened}
 use Rattle.fut_sizes.specs.Rules.{Each_hole, Outside, Away, Is_value, Applies, Sized}
@@ -21,13 +21,13 @@ use Rattle.fut_sizes.specs.Scoping.{Context}
 use Rattle.fut_sizes.specs.Steps.{State}
 use Rattle.fut_sizes.specs.Suiting.{Each, Scoped, Suits, suits_same}
 use Rattle.sizes_meet_rules.specs.Known.{is_i64_size, Known_name, Formed, Says, Judged, Elsewhere}
-use Rattle.sizes_meet_rules.specs.Plain.{Flat_function}
+use Rattle.sizes_meet_rules.specs.Plain.{Is_lambda, Flat_function, Gives_data}
 use Rattle.sizes_meet_rules.proofs.Applying.{number_size, or_unknown, Value_known}
 use Rattle.sizes_meet_rules.proofs.Chains.{number_value, Meant, step_in, Given, arguments, Takes_all, frame, here, opened_by, after, wants, last_found, last_next, own_maker, arrows_of, argument_by, taken_typed, All_plain}
 use Rattle.sizes_meet_rules.proofs.Entering.{param_data}
 use Rattle.sizes_meet_rules.proofs.Forming.{is_i64_ty, i64_ty_is, number_typed, formed_replaced}
 use Rattle.sizes_meet_rules.proofs.Frames.{Okay, more, Frames, pushed, pushed_as, fill, fill_keeps, filled, filled_same, opened_filled, filled_says}
-use Rattle.sizes_meet_rules.proofs.Meeting.{order, each_scoped, With_met, met_wider, met_outside, met_settled, elsewhere_narrower, away_of, Inner, Waits}
+use Rattle.sizes_meet_rules.proofs.Meeting.{order, each_scoped, With_met, met_wider, met_outside, met_settled, elsewhere_narrower, away_of, Inner, Waits, Waits_wide}
 use Rattle.sizes_meet_rules.proofs.Naming.{number_name}
 use Rattle.sizes_meet_rules.proofs.Noting.{Placed, placed_order, All_some, Avoids, uses_avoid, one_use, close, ended, Stages, Unnamed}
 use Rattle.sizes_meet_rules.proofs.Operating.{number_is}
@@ -60,25 +60,62 @@ pub placed_snoc : (gs : List Given) (g : Given) (from mid hi : ℕ) → Placed g
 placed_snoc [] g from mid hi p e z = (e ∙ sym p, ap (λ m. m + numbers g.term) p ∙ z)
 placed_snoc (h ∷ gs) g from mid hi p e z = (p.0, placed_snoc gs g (from + numbers h.term) mid hi p.1 e z)
 
+pub gives_lambda : (types : Sub) (home : ℕ → ℕ) (K : Kinds) (places : Kind) (e : FlatTerm) (n : ℕ) → Gives_data types home K places e n → Is_lambda e
+gives_lambda types home K places (Lambda (pattern_and p ps) e) n h = tt
+gives_lambda types home K places (Lambda no_pattern e) n h = h
+gives_lambda types home K places (Use r at k) n h = h
+gives_lambda types home K places (Strict o mark ts) n h = h
+gives_lambda types home K places (Apply f e) n h = h
+gives_lambda types home K places (Let b v e) n h = h
+gives_lambda types home K places (If c a b) n h = h
+gives_lambda types home K places (Loop mark sizes p first turns body) n h = h
+
 pub all_some : (gs : List Given) → All_some gs
 all_some [] = tt
 all_some (g ∷ gs) = (numbers_some g.term, all_some gs)
 
 module _ (N : Names) (types : Sub) (home : ℕ → ℕ) (K : Kinds) (places : Kind) (data_places : 1 ≤ level places) where
   module _ (In : Free → Type 0) (Vars : Variable → Type 0) (scope : Scope) where
+    -- what is met up to some node stands in it
+    pub record Given_inner (upto : ℕ) (g : Given) (st behind : State) : Type 0 where
+      pub says : Says (With_met In g.node upto) Vars g.size
+      pub typed : erased g.size ≡ types g.node
+      pub kept : (n : ℕ) → (n < g.node) ⊎ (g.node + numbers g.term ≤ n) → behind.nodes n ≡ st.nodes n
+      pub dropped : (n : ℕ) → (n < g.node) ⊎ (g.node + numbers g.term ≤ n) → behind.dropped n ≡ st.dropped n
+      pub rules : (s : ℕ → Size) (G : Context) → Judged In Vars scope G → s g.node ≡ g.size → ((n : ℕ) → g.node < n → n < g.node + numbers g.term → s n ≡ behind.nodes n) → Sized N types s home g.term g.node G
+
+    pub given_inner : (g : Given) (st behind : State) → Inner N types home In Vars scope g.term g.node (g.node + numbers g.term) st g.size behind → Given_inner (g.node + numbers g.term) g st behind
+    given_inner g st behind I = record { says = I.says; typed = I.typed; kept = I.kept; dropped = I.dropped; rules = I.rules }
+
     -- an argument that is sized between two states
-    pub record Given_meets (g : Given) (st behind : State) : Type 0 where
+    pub record Given_meets (upto : ℕ) (g : Given) (st behind : State) : Type 0 where
       pub value_is : (g.value ≡ None) ⊎ (g.value ≡ named_value g.term)
-      pub inner : Inner N types home In Vars scope g.term g.node (g.node + numbers g.term) st g.size behind
+      pub inner : Given_inner upto g st behind
       pub noted : g.named ≡ false → behind.nodes g.node ≡ g.size
       pub value_known : Value_known N types home K places data_places In Vars scope g.term (types g.node)
 
+    pub given_wider : (upto hi : ℕ) (g : Given) (st behind : State) → upto ≤ hi → Given_meets upto g st behind → Given_meets hi g st behind
+    given_wider upto hi g st behind l M = record {
+      value_is = M.value_is;
+      inner = record { says = record { sizes = each_scoped (With_met In g.node upto) (With_met In g.node hi) wide g.size 0 M.inner.says.sizes; variables = M.inner.says.variables; formed = M.inner.says.formed }; typed = M.inner.typed; kept = M.inner.kept; dropped = M.inner.dropped; rules = M.inner.rules };
+      noted = M.noted;
+      value_known = M.value_known;
+    }
+      where
+        wide : (d : Free) → With_met In g.node upto d → With_met In g.node hi d
+        wide d (inl i) = inl i
+        wide d (inr i) = inr (met_wider g.node upto g.node hi (omega arith) l d i)
+
+    -- of its own nodes
+    abbrev pub Own_meets : Given → State → State → Type 0
+    Own_meets g st behind = Given_meets (g.node + numbers g.term) g st behind
+
     abbrev pub Data_meets : Given → State → State → Type 0
-    Data_meets g st behind = Given_meets g st behind × ((HasKind K places (types g.node)) × (g.waits ≡ None))
+    Data_meets g st behind = Own_meets g st behind × ((HasKind K places (types g.node)) × (g.waits ≡ None))
 
     -- a function that does not wait
     abbrev pub Function_meets : Given → State → State → Type 0
-    Function_meets g st behind = Given_meets g st behind × (Flat_function types home K places (types g.node) × (g.waits ≡ None))
+    Function_meets g st behind = Own_meets g st behind × (Flat_function types home K places (types g.node) × (g.waits ≡ None))
 
     -- a lambda that waits
     pub record Lambda_waits (g : Given) : Type 0 where
@@ -90,6 +127,17 @@ module _ (N : Names) (types : Sub) (home : ℕ → ℕ) (K : Kinds) (places : Ki
       pub named : g.named ≡ false
       pub flat : Flat_function types home K places (types g.node)
 
+    -- one that takes the parameters which are wanted of it
+    pub record Lambda_wide (g : Given) : Type 0 where
+      pub st : State
+      pub part : Part
+      pub waits : Waits_wide N types home In Vars scope g.term g.node (g.node + numbers g.term) st part st
+      pub waits_is : g.waits ≡ Some waits.waiting
+      pub value : g.value ≡ None
+      pub named : g.named ≡ false
+      pub is_fun : is_function g.size ≡ true
+      pub gives : Gives_data types home K places g.term g.node
+
     -- arguments of data that are sized one after another
     abbrev pub All_given : List Given → State → State → Type 0
     All_given [] st A = A ≡ st
@@ -99,6 +147,11 @@ module _ (N : Names) (types : Sub) (home : ℕ → ℕ) (K : Kinds) (places : Ki
     abbrev pub One_waits : List Given → State → State → Type 0
     One_waits [] st A = ⊥
     One_waits (g ∷ gs) st A = ((mid : State) × (Data_meets g st mid × One_waits gs mid A)) ⊎ ((Lambda_waits g × All_given gs st A) ⊎ ((mid : State) × (Function_meets g st mid × All_given gs mid A)))
+
+    -- or such a lambda before data
+    abbrev pub First_waits : List Given → State → State → Type 0
+    First_waits [] st A = ⊥
+    First_waits (g ∷ gs) st A = Lambda_wide g × All_given gs st A
 
     pub given_snoc : (gs : List Given) (g : Given) (st mid A : State) → All_given gs st mid → Data_meets g mid A → All_given (gs ++ g ∷ []) st A
     given_snoc [] g st mid A h m = (A, (subst (λ x. Data_meets g x A) h m, refl))
@@ -118,11 +171,15 @@ module _ (N : Names) (types : Sub) (home : ℕ → ℕ) (K : Kinds) (places : Ki
     data_snoc (x ∷ gs) g st mid A (inr (inl h)) m = inr (inl (h.0, given_snoc gs g st mid A h.1 m))
     data_snoc (x ∷ gs) g st mid A (inr (inr h)) m = inr (inr (h.0, (h.1.0, given_snoc gs g h.0 mid A h.1.1 m)))
 
+    pub first_snoc : (gs : List Given) (g : Given) (st mid A : State) → First_waits gs st mid → Data_meets g mid A → First_waits (gs ++ g ∷ []) st A
+    first_snoc [] g st mid A h m = absurd h
+    first_snoc (x ∷ gs) g st mid A h m = (h.0, given_snoc gs g st mid A h.1 m)
+
     -- ---- once all are sized: the lambda from the state behind data to the last one
 
-    module _ (A0 B : State) where
+    module _ (to : ℕ) (A0 B : State) where
       abbrev pub Part_there : Given → State → State → Type 0
-      Part_there g st mid = (Given_meets g st mid × (g.waits ≡ None)) ⊎ (Given_meets g A0 B × (mid ≡ st))
+      Part_there g st mid = (Own_meets g st mid × (g.waits ≡ None)) ⊎ (Given_meets to g A0 B × (mid ≡ st))
 
       abbrev pub All_parts : List Given → State → State → Type 0
       All_parts [] st A = A ≡ st
@@ -136,9 +193,9 @@ module _ (N : Names) (types : Sub) (home : ℕ → ℕ) (K : Kinds) (places : Ki
       last_state g st mid (inl m) = mid
       last_state g st mid (inr m) = B
 
-      pub part_meets : (g : Given) (st mid : State) (m : Part_there g st mid) → Given_meets g (first_state g st mid m) (last_state g st mid m)
-      part_meets g st mid (inl m) = m.0
-      part_meets g st mid (inr m) = m.0
+      pub part_meets : (g : Given) (st mid : State) (m : Part_there g st mid) → g.node + numbers g.term ≤ to → Given_meets to g (first_state g st mid m) (last_state g st mid m)
+      part_meets g st mid (inl m) l = given_wider (g.node + numbers g.term) to g st mid l m.0
+      part_meets g st mid (inr m) l = m.0
 
       part_kept : (g : Given) (st mid : State) → Part_there g st mid → (x : ℕ) → (x < g.node) ⊎ (g.node + numbers g.term ≤ x) → mid.nodes x ≡ st.nodes x
       part_kept g st mid (inl m) x o = m.0.inner.kept x o
@@ -198,22 +255,22 @@ module _ (N : Names) (types : Sub) (home : ℕ → ℕ) (K : Kinds) (places : Ki
       met_later m d (inl i) l = inl i
       met_later m d (inr i) l = inr (met_wider first hi m hi l (omega arith) d i)
 
-      pub given_in : (g : Given) (st behind : State) → Given_meets g st behind → first ≤ g.node → g.node + numbers g.term ≤ hi → Each (Scoped P) 0 g.size
-      given_in g st behind m l l' = each_scoped (With_met In g.node (g.node + numbers g.term)) P wide g.size 0 m.inner.says.sizes
+      pub given_in : (upto : ℕ) (g : Given) (st behind : State) → Given_meets upto g st behind → first ≤ g.node → upto ≤ hi → Each (Scoped P) 0 g.size
+      given_in upto g st behind m l l' = each_scoped (With_met In g.node upto) P wide g.size 0 m.inner.says.sizes
         where
-          wide : (d : Free) → With_met In g.node (g.node + numbers g.term) d → P d
+          wide : (d : Free) → With_met In g.node upto d → P d
           wide d (inl i) = inl i
-          wide d (inr i) = inr (met_wider g.node (g.node + numbers g.term) first hi l l' d i)
+          wide d (inr i) = inr (met_wider g.node upto first hi l l' d i)
 
       module _ (A0 B : State) where
-        pub all_plain : (gs : List Given) (st A : State) (from : ℕ) → first ≤ from → Placed gs from hi → All_parts A0 B gs st A → All_plain lo P P P_settled P_settled gs
+        pub all_plain : (gs : List Given) (st A : State) (from : ℕ) → first ≤ from → Placed gs from hi → All_parts hi A0 B gs st A → All_plain lo P P P_settled P_settled gs
         all_plain [] st A from l p h = tt
         all_plain (g ∷ gs) st A from l p h =
-            let M = part_meets A0 B g st h.0 h.1.0 in
-            ((M.inner.says.formed, given_in g (first_state A0 B g st h.0 h.1.0) (last_state A0 B g st h.0 h.1.0) M (let y = p.0 in omega (arith, y, l)) (let y = p.0 in let z = placed_order gs (from + numbers g.term) hi p.1 in omega (arith, y, z))), all_plain gs h.0 A (from + numbers g.term) (omega (arith, l)) p.1 h.1.1)
+            let M = part_meets hi A0 B g st h.0 h.1.0 (let y = p.0 in let z = placed_order gs (from + numbers g.term) hi p.1 in omega (arith, y, z)) in
+            ((M.inner.says.formed, given_in hi g (first_state hi A0 B g st h.0 h.1.0) (last_state hi A0 B g st h.0 h.1.0) M (let y = p.0 in omega (arith, y, l)) (omega arith)), all_plain gs h.0 A (from + numbers g.term) (omega (arith, l)) p.1 h.1.1)
 
       pub one_fit : (g : Given) (st mid : State) → Data_meets g st mid → first ≤ g.node → g.node + numbers g.term ≤ hi → Data_given P Vars K types g
-      one_fit g st mid m l l' = (((param_data N types home K places g.size g.node data_places m.1.0 m.0.inner.says.formed m.0.inner.typed, m.0.inner.says.formed, given_in g st mid m.0 l l', m.0.inner.says.variables), m.1.1), (m.0.inner.typed, let k = m.1.0 in omega (arith, data_places, k)))
+      one_fit g st mid m l l' = (((param_data N types home K places g.size g.node data_places m.1.0 m.0.inner.says.formed m.0.inner.typed, m.0.inner.says.formed, given_in (g.node + numbers g.term) g st mid m.0 l l', m.0.inner.says.variables), m.1.1), (m.0.inner.typed, let k = m.1.0 in omega (arith, data_places, k)))
 
       pub all_fit : (gs : List Given) (st A : State) (from : ℕ) → first ≤ from → Placed gs from hi → All_given gs st A → All_data_given P Vars K types gs
       all_fit [] st A from l p h = tt
@@ -234,7 +291,7 @@ module _ (N : Names) (types : Sub) (home : ℕ → ℕ) (K : Kinds) (places : Ki
         still (Unknown n c) s = refl
 
         -- ---- the positions of one function
-        module _ (at next k : ℕ) (g : Given) (st behind : State) (M : Given_meets g st behind) (a1 : lo ≤ at) (a2 : at < first) (a3 : first ≤ hi) (maker : (i : ℕ) → i < k → τ.maker (next + i) ≡ at) where
+        module _ (at next k : ℕ) (g : Given) (st behind : State) (M : Given_meets hi g st behind) (a1 : lo ≤ at) (a2 : at < first) (a3 : first ≤ hi) (maker : (i : ℕ) → i < k → τ.maker (next + i) ≡ at) where
           abbrev inside : ℕ → Free
           inside i = closed_to (frame at next k (number_value g) i)
 
@@ -347,7 +404,7 @@ module _ (N : Names) (types : Sub) (home : ℕ → ℕ) (K : Kinds) (places : Ki
           pub says : Says (With_met In lo hi) Vars t
           pub typed : erased t ≡ u
 
-        pub last_says : (gs : List Given) (δ : Frames) (ok : ℕ → ℕ → Type 0) (t : Size) (σ : Found) (st A : State) (from : ℕ) (u : Ty) → Takes_all gs t → Each (Okay P ok) 0 t → Each_hole Vars t → Formed t → erased t ≡ arrows_of types gs u → Frames_in (here lo gs) ok δ → first ≤ hi → here lo gs < first → Placed gs from hi → All_parts A0 B gs st A
+        pub last_says : (gs : List Given) (δ : Frames) (ok : ℕ → ℕ → Type 0) (t : Size) (σ : Found) (st A : State) (from : ℕ) (u : Ty) → Takes_all gs t → Each (Okay P ok) 0 t → Each_hole Vars t → Formed t → erased t ≡ arrows_of types gs u → Frames_in (here lo gs) ok δ → first ≤ hi → here lo gs < first → Placed gs from hi → All_parts hi A0 B gs st A
             → ((x : ℕ) → x < (last_found lo gs t σ).next → τ.maker x ≡ (last_found lo gs t σ).maker x) → (s : ℕ → Size) → Stages N types τ lo P P_settled gs δ t σ s → Last_says u (s lo)
         unfolding Each Each_hole Formed erased
         last_says [] δ ok t σ st A from u h e o f z fs l l' p a mk s g = subst (Last_says u) (sym g) (record {
@@ -359,11 +416,11 @@ module _ (N : Names) (types : Sub) (home : ℕ → ℕ) (K : Kinds) (places : Ki
           typed = erased_replaced (fill (ends δ)) t 0 ∙ z;
         })
         last_says (g ∷ gs) δ ok (Fun k p r) σ st A from u h e o f z fs l l' pl a mk s w =
-            let M = part_meets A0 B g st a.0 a.1.0 in
+            let M = part_meets hi A0 B g st a.0 a.1.0 (let y = pl.0 in let q = placed_order gs (from + numbers g.term) hi pl.1 in omega (arith, y, q)) in
             let v = step_in P ok k p r g f M.inner.says.formed (taken_typed p g.size h.0) e in
             last_says gs (pushed (frame (here lo gs) σ.next k (number_value g)) δ) (more (Meant k g) ok) r (after lo gs g σ k) a.0 A (from + numbers g.term) u h.1 v.1 o.1 f.1 (let y : fun_ty (erased p) (erased r) ≡ fun_ty (types g.node) (arrows_of types gs u) = z in cc)
             (frames_more gs ok (Meant k g) δ (frame (here lo gs) σ.next k (number_value g)) (λ j i x. subst (λ m. With_met In m hi (ends δ j i)) (let y : here lo (g ∷ gs) ≡ suc (here lo gs) = omega arith in y) (fs j i x))
-            (λ i. all_in (here lo gs) σ.next k g (first_state A0 B g st a.0 a.1.0) (last_state A0 B g st a.0 a.1.0) M (omega arith) (omega (arith, l')) l (λ m x. mk (σ.next + m) (let y = last_next lo gs r (after lo gs g σ k) in omega (arith, x, y)) ∙ own_maker lo gs g k r σ m x) i))
+            (λ i. all_in (here lo gs) σ.next k g (first_state hi A0 B g st a.0 a.1.0) (last_state hi A0 B g st a.0 a.1.0) M (omega arith) (omega (arith, l')) l (λ m x. mk (σ.next + m) (let y = last_next lo gs r (after lo gs g σ k) in omega (arith, x, y)) ∙ own_maker lo gs g k r σ m x) i))
             l (omega (arith, l')) pl.1 a.1.1 mk s w.1.1.1
         last_says (g ∷ gs) δ ok (Hole v) σ st A from u h e o f z fs l l' p a mk s w = absurd h
         last_says (g ∷ gs) δ ok (Open m v x) σ st A from u h e o f z fs l l' p a mk s w = absurd h
@@ -371,17 +428,17 @@ module _ (N : Names) (types : Sub) (home : ℕ → ℕ) (K : Kinds) (places : Ki
         last_says (g ∷ gs) δ ok (Built b ts) σ st A from u h e o f z fs l l' p a mk s w = absurd h
 
         module _ (s : ℕ → Size) (room : first ≤ hi) where
-          abbrev pub Inner_nodes : (gs : List Given) (st A : State) → All_parts A0 B gs st A → Type 0
+          abbrev pub Inner_nodes : (gs : List Given) (st A : State) → All_parts hi A0 B gs st A → Type 0
           Inner_nodes [] st A h = Unit {0}
-          Inner_nodes (g ∷ gs) st A h = ((x : ℕ) → g.node < x → x < g.node + numbers g.term → s x ≡ (last_state A0 B g st h.0 h.1.0).nodes x) × Inner_nodes gs h.0 A h.1.1
+          Inner_nodes (g ∷ gs) st A h = ((x : ℕ) → g.node < x → x < g.node + numbers g.term → s x ≡ (last_state hi A0 B g st h.0 h.1.0).nodes x) × Inner_nodes gs h.0 A h.1.1
 
           -- one node of an argument, in the last state
-          part_node : (g : Given) (gs : List Given) (st mid A : State) (from : ℕ) → g.node + numbers g.term ≡ from → Placed gs from hi → (m : Part_there A0 B g st mid) → All_parts A0 B gs mid A → ((x : ℕ) → g.node ≤ x → x < hi → Not_in (g ∷ gs) x → B.nodes x ≡ A.nodes x) → (x : ℕ) → g.node ≤ x → x < from → from ≤ hi → B.nodes x ≡ (last_state A0 B g st mid m).nodes x
-          part_node g gs st mid A from e pl (inl m) hs still x l l' r = still x l (omega (arith, l', r)) (inr m.1, not_in_outside gs from hi pl x (inl l')) ∙ below A0 B gs mid A from hi pl hs x (inl l')
+          part_node : (g : Given) (gs : List Given) (st mid A : State) (from : ℕ) → g.node + numbers g.term ≡ from → Placed gs from hi → (m : Part_there hi A0 B g st mid) → All_parts hi A0 B gs mid A → ((x : ℕ) → g.node ≤ x → x < hi → Not_in (g ∷ gs) x → B.nodes x ≡ A.nodes x) → (x : ℕ) → g.node ≤ x → x < from → from ≤ hi → B.nodes x ≡ (last_state hi A0 B g st mid m).nodes x
+          part_node g gs st mid A from e pl (inl m) hs still x l l' r = still x l (omega (arith, l', r)) (inr m.1, not_in_outside gs from hi pl x (inl l')) ∙ below hi A0 B gs mid A from hi pl hs x (inl l')
           part_node g gs st mid A from e pl (inr m) hs still x l l' r = refl
 
           -- ---- nodes within arguments, and of those that are no names
-          pub nodes_of : (gs : List Given) (φ : Opened) (t : Size) (σ : Found) (st A : State) (from : ℕ) → Takes_all gs t → Placed gs from hi → (h : All_parts A0 B gs st A) → ((x : ℕ) → from ≤ x → x < hi → Not_in gs x → B.nodes x ≡ A.nodes x) → ((x : ℕ) → from ≤ x → x < hi → Avoids N types τ x (uses (wants lo gs φ t σ)) → s x ≡ B.nodes x)
+          pub nodes_of : (gs : List Given) (φ : Opened) (t : Size) (σ : Found) (st A : State) (from : ℕ) → Takes_all gs t → Placed gs from hi → (h : All_parts hi A0 B gs st A) → ((x : ℕ) → from ≤ x → x < hi → Not_in gs x → B.nodes x ≡ A.nodes x) → ((x : ℕ) → from ≤ x → x < hi → Avoids N types τ x (uses (wants lo gs φ t σ)) → s x ≡ B.nodes x)
               → Unnamed N types τ lo P P_settled gs s × Inner_nodes gs st A h
           nodes_of [] φ t σ st A from w p h still a = (tt, tt)
           nodes_of (g ∷ gs) φ (Fun k p r) σ st A from w pl h still a =
@@ -390,7 +447,7 @@ module _ (N : Names) (types : Sub) (home : ℕ → ℕ) (K : Kinds) (places : Ki
               let n2 = placed_order gs (from + numbers g.term) hi pl.1 in
               let ls = uses (wants lo gs (opened_by lo gs g σ k φ) r (after lo gs g σ k)) in
               let m = h.1.0 in
-              let M = part_meets A0 B g st h.0 m in
+              let M = part_meets hi A0 B g st h.0 m (omega (arith, n1, n2)) in
               let there = part_node g gs st h.0 A (from + numbers g.term) (omega (arith, n1)) pl.1 m h.1.1 (λ x l l' o. still x (omega (arith, n1, l)) l' o) in
               let rest = nodes_of gs (opened_by lo gs g σ k φ) r (after lo gs g σ k) h.0 A (from + numbers g.term) w.1 pl.1 h.1.1 (λ x l l' o. still x (omega (arith, l)) l' (inl (inr (omega (arith, n1, l))), o)) (λ x l l' v. a x (omega (arith, l)) l' (one_use N types τ lo g.named g.node g.value g.size (opened_by lo gs g σ k φ) p ls x (λ z. omega (arith, z, n1, l, n0)) v)) in (
                 (
@@ -414,7 +471,7 @@ module _ (N : Names) (types : Sub) (home : ℕ → ℕ) (K : Kinds) (places : Ki
           opened_as : (δ : Frames) (f : ℕ → Free) (t : Size) → opened (λ i. closed_to (f i)) (filled (ends δ) 1 t) ≡ filled (ends (pushed f δ)) 0 t
           opened_as δ f t = opened_filled (λ i. closed_to (f i)) (ends δ) t ∙ filled_same (pushed (λ i. closed_to (f i)) (ends δ)) (ends (pushed f δ)) (pushed_as closed_to f δ) t 0
 
-          one_rule : (gs : List Given) (g : Given) (δ : Frames) (ok : ℕ → ℕ → Type 0) (k : ℕ) (p r : Size) (next : ℕ) (f : FlatTerm) (st behind : State) → Given_meets g st behind → Formed (Fun k p r) → Each (Okay P ok) 0 (Fun k p r) → Frames_in (suc (here lo gs)) ok δ
+          one_rule : (gs : List Given) (g : Given) (δ : Frames) (ok : ℕ → ℕ → Type 0) (k : ℕ) (p r : Size) (next : ℕ) (f : FlatTerm) (st behind : State) → Given_meets hi g st behind → Formed (Fun k p r) → Each (Okay P ok) 0 (Fun k p r) → Frames_in (suc (here lo gs)) ok δ
               → here lo gs < first → first ≤ g.node → g.node + numbers g.term ≤ hi → ((i : ℕ) → i < k → τ.maker (next + i) ≡ here lo gs) → g.node ≡ 1 + here lo gs + numbers f → s (suc (here lo gs)) ≡ filled (ends δ) 0 (Fun k p r) → filled (ends (pushed (frame (here lo gs) next k (number_value g)) δ)) 0 p ≡ g.size → s g.node ≡ g.size
               → ((x : ℕ) → g.node < x → x < g.node + numbers g.term → s x ≡ behind.nodes x) → s (here lo gs) ≡ filled (ends (pushed (frame (here lo gs) next k (number_value g)) δ)) 0 r → Sized N types s home f (1 + here lo gs) G → Sized N types s home (Apply f g.term) (here lo gs) G
           unfolding replaced Formed
@@ -436,7 +493,7 @@ module _ (N : Names) (types : Sub) (home : ℕ → ℕ) (K : Kinds) (places : Ki
               value = subst (λ d. Is_value N types s home g.term g.node G d ⊎ (d ≡ Unknown (here lo gs) (next + k))) (sym (at_value (here lo gs) next k g st behind M (omega arith) l room maker)) (value_given (here lo gs) next k g st behind M (omega arith) l room maker s G J argument_here g.term M.value_known (number_value g) (number_given (here lo gs) next k g st behind M (omega arith) l room maker));
               new = λ i x. at_high (here lo gs) next k g st behind M (omega arith) l room maker i x;
               result = inl (result_here ∙ sym (opened_as δ (frame (here lo gs) next k (number_value g)) r));
-              order = inl (subst (λ w. Away N types s home (1 + here lo gs) g.node w) (sym argument_here) (away_of N types home (With_met In g.node (g.node + numbers g.term)) Vars s (1 + here lo gs) g.node g.size before M.inner.says));
+              order = inl (subst (λ w. Away N types s home (1 + here lo gs) g.node w) (sym argument_here) (away_of N types home (With_met In g.node hi) Vars s (1 + here lo gs) g.node g.size before M.inner.says));
             }),
           )
             where
@@ -447,23 +504,23 @@ module _ (N : Names) (types : Sub) (home : ℕ → ℕ) (K : Kinds) (places : Ki
               outside d (inl w) o = (elsewhere_narrower N types home lo hi (here lo gs) (1 + here lo gs) In (omega arith) (omega (arith, l, room)) E).outside d w o
               outside d (inr w) o = met_outside N types home (suc (here lo gs)) hi (here lo gs) (1 + here lo gs) (inr (omega arith)) d w o
 
-              before : (d : Free) → With_met In g.node (g.node + numbers g.term) d → Outside N types s home (1 + here lo gs) g.node d
+              before : (d : Free) → With_met In g.node hi d → Outside N types s home (1 + here lo gs) g.node d
               before d (inl w) o = (elsewhere_narrower N types home lo hi (1 + here lo gs) g.node In (omega arith) (omega (arith, l2)) E).outside d w o
-              before d (inr w) o = met_outside N types home g.node (g.node + numbers g.term) (1 + here lo gs) g.node (inr (omega arith)) d w o
+              before d (inr w) o = met_outside N types home g.node hi (1 + here lo gs) g.node (inr (omega arith)) d w o
 
-          pub rules_all : (gs : List Given) (δ : Frames) (ok : ℕ → ℕ → Type 0) (t : Size) (σ : Found) (f : FlatTerm) (st A : State) (from : ℕ) → Takes_all gs t → Each (Okay P ok) 0 t → Formed t → Frames_in (here lo gs) ok δ → here lo gs < first → first ≤ from → from ≡ here lo gs + numbers f → Placed gs from hi → (h : All_parts A0 B gs st A)
+          pub rules_all : (gs : List Given) (δ : Frames) (ok : ℕ → ℕ → Type 0) (t : Size) (σ : Found) (f : FlatTerm) (st A : State) (from : ℕ) → Takes_all gs t → Each (Okay P ok) 0 t → Formed t → Frames_in (here lo gs) ok δ → here lo gs < first → first ≤ from → from ≡ here lo gs + numbers f → Placed gs from hi → (h : All_parts hi A0 B gs st A)
               → ((x : ℕ) → x < (last_found lo gs t σ).next → τ.maker x ≡ (last_found lo gs t σ).maker x) → Stages N types τ lo P P_settled gs δ t σ s → Inner_nodes s room gs st A h → Sized N types s home f (here lo gs) G → Sized N types s home (spine f gs) lo G
           unfolding Each Formed
           rules_all [] δ ok t σ f st A from w e fm fs l l1 z p h mk g i rules = subst (λ m. Sized N types s home f m G) (let y : here lo [] ≡ lo = omega arith in y) rules
           rules_all (g ∷ gs) δ ok (Fun k p r) σ f st A from w e fm fs l l1 z pl h mk stage i rules =
               let maker : (m : ℕ) → m < k → τ.maker (σ.next + m) ≡ here lo gs = λ m x. mk (σ.next + m) (let y = last_next lo gs r (after lo gs g σ k) in omega (arith, x, y)) ∙ own_maker lo gs g k r σ m x in
               let around_here : Frames_in (suc (here lo gs)) ok δ = λ j m x. subst (λ q. With_met In q hi (ends δ j m)) (let y : here lo (g ∷ gs) ≡ suc (here lo gs) = omega arith in y) (fs j m x) in
-              let M = part_meets A0 B g st h.0 h.1.0 in
-              let s0 = first_state A0 B g st h.0 h.1.0 in
-              let s1 = last_state A0 B g st h.0 h.1.0 in
-              let v = step_in P ok k p r g fm M.inner.says.formed (taken_typed p g.size w.0) e in
               let n1 = pl.0 in
               let n2 = placed_order gs (from + numbers g.term) hi pl.1 in
+              let M = part_meets hi A0 B g st h.0 h.1.0 (omega (arith, n1, n2)) in
+              let s0 = first_state hi A0 B g st h.0 h.1.0 in
+              let s1 = last_state hi A0 B g st h.0 h.1.0 in
+              let v = step_in P ok k p r g fm M.inner.says.formed (taken_typed p g.size w.0) e in
               rules_all gs (pushed (frame (here lo gs) σ.next k (number_value g)) δ) (more (Meant k g) ok) r (after lo gs g σ k) (Apply f g.term) h.0 A (from + numbers g.term) w.1 v.1 fm.1
               (frames_more gs ok (Meant k g) δ (frame (here lo gs) σ.next k (number_value g)) around_here (λ m. all_in (here lo gs) σ.next k g s0 s1 M (omega arith) (omega (arith, l)) room maker m))
               (omega (arith, l)) (omega (arith, l1)) (omega (arith, z)) pl.1 h.1.1 mk stage.1.1.1 i.1

@@ -13,7 +13,7 @@ use Rattle.fut_types.specs.Types.{Ty, Var, Made, none, more, Sub, Kinds, rank, l
 use Rattle.fut_typing.specs.Primitives.{prim_type}
 use Rattle.sized_types.specs.Sizes.{Free, Dim, At, Bound, Variable, Inferred, Written, is_variable, Size, Hole, Open, Level, Built, Fun, Sizes, no_size, size_and, erased, all_erased, levels, all_levels}
 use Rattle.sized_types.specs.Standing.{has_hole, some_hole}
-use Rattle.fut_sizes.specs.Applications.{is_arrow}
+use Rattle.fut_sizes.specs.Applications.{is_function, is_arrow}
 use Rattle.fut_sizes.specs.Functions.{is_slot}
 use Rattle.fut_sizes.specs.Primitives.{scalar_size, sized_type, prim_size, is_regular}
 use Rattle.fut_sizes.specs.Rules.{Each_hole, Each_holes, filled as with_types, all_filled as all_with_types}
@@ -26,7 +26,7 @@ use Rattle.sizes_meet_rules.proofs.Applying.{no_arrow}
 use Rattle.sizes_meet_rules.proofs.Chains.{Given, Has_arrows, Widths, arrows_of}
 use Rattle.sizes_meet_rules.proofs.Filling.{function_holes, data_holes, lambda_holes, Data_fit, Is_inferred, Nice, Arrows}
 use Rattle.sizes_meet_rules.proofs.Fitting.{is_simple, is_wanted}
-use Rattle.sizes_meet_rules.proofs.Lambdas.{Waiting_fit, Data_given, All_data_given, One_given, Lambda_there, One_lambda, Early_function, Early_there}
+use Rattle.sizes_meet_rules.proofs.Lambdas.{Waiting_fit, Data_given, All_data_given, One_given, Lambda_there, One_lambda, Early_function, Early_there, Function_wanted, One_wide}
 use Rattle.sizes_meet_rules.proofs.Meeting.{each_scoped}
 use Rattle.fut_sizes.proofs.Erasing.{primitive_erased}
 use Rattle.sizes_meet_rules.proofs.Replacing.{each_as, hole_as, holes_as}
@@ -627,6 +627,32 @@ module _ (n : ℕ) (types : Variable → Ty) where
       lambda_arrows (x ∷ gs) (Level l t) u f i d o k1 e D = absurd (let y : Made head.Array (more (applied g (erased t)) none) ≡ fun_ty (sub x.node) (arrows_of sub gs u) = e in cc)
       lambda_arrows (x ∷ gs) (Built h ts) u f i d o k1 e D = absurd (subst Is_made (head_same e) f.0)
 
+    -- with a lambda before data, which takes the parameters that are wanted of it
+    module _ (Went : Type 0) (st after : State) (lo : ℕ) where
+      function_parameter : (p : Size) (x : Given) (a c : Ty) → Formed p → is_data p || (is_arrow p && is_wanted q (λ v. regular) p) ≡ true → Each_hole Is_inferred p → Each_hole (λ v. types v ≡ given_of g v) p → applied g (erased p) ≡ sub x.node → sub x.node ≡ fun_ty a c → Function_wanted n types P settled Vars K sub Went st after lo q regular p (sub x.node)
+      function_parameter p x a c f w i o e is = by_kind (one_of (is_data p) (is_arrow p && is_wanted q (λ v. regular) p) w)
+        where
+          by_kind : (is_data p ≡ true) ⊎ (is_arrow p && is_wanted q (λ v. regular) p ≡ true) → Function_wanted n types P settled Vars K sub Went st after lo q regular p (sub x.node)
+          by_kind (inl d) = absurd (data_typed p a c f i d (e ∙ is))
+          by_kind (inr b) =
+              let y = both_true (is_arrow p) (is_wanted q (λ v. regular) p) b in
+              record { wanted = y.1; arrow = y.0; inferred = i; kinds = kinds_there p i o; typed = opened_typed g p i o ∙ e }
+
+      wide_arrows : (x : Given) (gs : List Given) (t : Size) (u : Ty) → Formed t → Each_hole Is_inferred t → takes_args q regular t ≡ true → Each_hole (λ v. types v ≡ given_of g v) t → 1 ≤ rank K u → applied g (erased t) ≡ arrows_of sub (x ∷ gs) u → is_function x.size ≡ true → (a c : Ty) → sub x.node ≡ fun_ty a c → All_data_given P Vars K sub gs
+          → Arrows n types P settled Vars (x ∷ gs) t × One_wide n types P settled Vars K sub Went st after lo q regular (x ∷ gs) t
+      unfolding takes_args Formed Each_hole erased applied all_applied
+      wide_arrows x gs (Fun k p r) u f i d o k1 e is_fun a c is D =
+          let w = both_true (is_data p || (is_arrow p && is_wanted q (λ v. regular) p)) (takes_args q regular r) d in
+          let y : fun_ty (applied g (erased p)) (applied g (erased r)) ≡ fun_ty (sub x.node) (arrows_of sub gs u) = e in
+          let F = function_parameter p x a c f.0 w.0 i.0 o.0 (let z : applied g (erased p) ≡ sub x.node = cc in z) is in
+          let R = data_arrows gs r u f.1 i.1 w.1 o.1 k1 (let z : applied g (erased r) ≡ arrows_of sub gs u = cc in z) D in
+          ((inr (is_fun, F.arrow), R.0), (F, D, R.1))
+      wide_arrows x gs (Hole (Inferred v)) u f i d o k1 e is_fun a c is D = absurd (no_function (sub x.node) (arrows_of sub gs u) (subst (λ w. 1 ≤ rank K w) e (kinds v)))
+      wide_arrows x gs (Hole (Written b k)) u f i d o k1 e is_fun a c is D = absurd i
+      wide_arrows x gs (Open m v y) u f i d o k1 e is_fun a c is D = absurd f
+      wide_arrows x gs (Level l t) u f i d o k1 e is_fun a c is D = absurd (let y : Made head.Array (more (applied g (erased t)) none) ≡ fun_ty (sub x.node) (arrows_of sub gs u) = e in cc)
+      wide_arrows x gs (Built h ts) u f i d o k1 e is_fun a c is D = absurd (subst Is_made (head_same e) f.0)
+
   arrows_opened : (P : Free → Type 0) (settled : (d : Free) → P d → is_slot d ≡ false) (Vars : Variable → Type 0) (gs : List Given) (t : Size) → Arrows n types P settled Vars gs t → Widths gs (instance n types t) → Has_arrows gs (instance n types t)
   unfolding instance
   arrows_opened P settled Vars [] t a w = tt
@@ -655,6 +681,10 @@ module _ (n : ℕ) (p : Primitive) (u : Ty) (g : Sub) (typed : u ≡ applied g (
 
       pub prim_lambda : (Went : Type 0) (st after : State) (lo : ℕ) → One_given P Vars K sub Went st after gs → Arrows n types_there P settled Vars gs (prim_size p) × One_lambda n types_there P settled Vars K sub Went st after lo (data_holes (prim_size p)) (is_regular p) gs (prim_size p)
       prim_lambda Went st after lo D = lambda_arrows n types_there P settled Vars K g kinds sub (data_holes (prim_size p)) (is_regular p) Went st after lo gs (prim_size p) w (prim_ok p).formed (prim_ok p).inferred (prim_ok p).takes types_given data_kind (ap (applied g) (primitive_erased p) ∙ sym typed ∙ arrows) D
+
+    pub prim_wide : (K : Kinds) (kinds : (m : ℕ) → 1 ≤ rank K (g m)) (sub : Sub) (x : Given) (gs : List Given) (w : Ty) → 1 ≤ rank K w → u ≡ arrows_of sub (x ∷ gs) w → (Went : Type 0) (st after : State) (lo : ℕ) → is_function x.size ≡ true → (a c : Ty) → sub x.node ≡ fun_ty a c → All_data_given P Vars K sub gs
+        → Arrows n types_there P settled Vars (x ∷ gs) (prim_size p) × One_wide n types_there P settled Vars K sub Went st after lo (data_holes (prim_size p)) (is_regular p) (x ∷ gs) (prim_size p)
+    prim_wide K kinds sub x gs w data_kind arrows Went st after lo is_fun a c is D = wide_arrows n types_there P settled Vars K g kinds sub (data_holes (prim_size p)) (is_regular p) Went st after lo x gs (prim_size p) w (prim_ok p).formed (prim_ok p).inferred (prim_ok p).takes types_given data_kind (ap (applied g) (primitive_erased p) ∙ sym typed ∙ arrows) is_fun a c is D
 
     pub prim_widths : (gs : List Given) → Arrows n types_there P settled Vars gs (prim_size p) → Widths gs (instance n types_there (prim_size p)) → Has_arrows gs (instance n types_there (prim_size p))
     prim_widths gs a w = arrows_opened n types_there P settled Vars gs (prim_size p) a w

@@ -22,7 +22,7 @@ use Rattle.sizes_meet_rules.specs.Known.{Known_names, Elsewhere}
 use Rattle.sizes_meet_rules.specs.Plain.{Plain_term}
 use Rattle.sizes_meet_rules.proofs.Operating.{Size_written, Sizes_written, All_sizes_written, number_is}
 use Rattle.sizes_meet_rules.proofs.Naming.{number_name}
-use Rattle.sizes_meet_rules.proofs.Meeting.{then_ok, Meets, Part_meets, finished_meets}
+use Rattle.sizes_meet_rules.proofs.Meeting.{then_ok, Meets, Waits_wide, Part_meets, finished_meets}
 
 pub own_some : (o : Operation Ref BindId) → 1 ≤ own_numbers o
 own_some (Binary op) = omega arith
@@ -48,6 +48,11 @@ module _ (N : Names) (types : Sub) (home : ℕ → ℕ) (K : Kinds) (places : Ki
   abbrev pub Law_of : FlatTerm → Type 1
   Law_of e = (In : Free → Type 0) (Vars : Variable → Type 0) (scope : Scope) (T : TypeScope) (lo : ℕ) (st : State) (d : Done Part) → Plain_term types home K places N e lo → Typed N places e lo T K types → Known_names In Vars home scope K types T
       → Elsewhere N types home lo (lo + numbers e) In → sized N types e [] lo scope st ≡ Ok d → Part_meets N types home In Vars scope e lo (lo + numbers e) st d.result d.state
+
+  -- of a lambda that takes the parameters which are wanted of it
+  abbrev pub Wide_law : FlatTerm → Type 1
+  Wide_law e = (In : Free → Type 0) (Vars : Variable → Type 0) (scope : Scope) (T : TypeScope) (lo : ℕ) (st : State) (d : Done Part) → Plain_term types home K places N e lo → Typed N places e lo T K types → Known_names In Vars home scope K types T
+      → Elsewhere N types home lo (lo + numbers e) In → sized N types e [] lo scope st ≡ Ok d → Waits_wide N types home In Vars scope e lo (lo + numbers e) st d.result d.state
 
   -- by itself
   pub alone : (e : FlatTerm) → Law_of e → (In : Free → Type 0) (Vars : Variable → Type 0) (scope : Scope) (T : TypeScope) (lo : ℕ) (st : State) (d : Done Part) (u : Done Size) → Plain_term types home K places N e lo → Typed N places e lo T K types → Known_names In Vars home scope K types T

@@ -6,7 +6,7 @@ use Rattle.fut_scalar.specs.declared.place.Place.{Place}
 use Rattle.fut_flat.specs.declared.prim.Primitive.{Primitive}
 use Rattle.fut_flat.specs.declared.prim.Ref.TheVariants as ref
 use Rattle.fut_flat.specs.Numbers.{numbers}
-use Rattle.fut_flat.specs.Terms.{Use, Apply}
+use Rattle.fut_flat.specs.Terms.{no_pattern, pattern_and, Use, Strict, Lambda, Apply, Let, If, Loop}
 use Rattle.fut_flat.specs.Erased.{FlatTerm}
 use Rattle.fut_types.specs.declared.Head.TheVariants as head
 use Rattle.fut_types.specs.declared.Kind.{Kind}
@@ -14,7 +14,7 @@ use Rattle.fut_types.specs.Types.{Ty, fun_ty, Sub, Kinds, HasKind, level}
 use Rattle.fut_typing.specs.Names.{Names}
 use Rattle.fut_typing.specs.Scopes.{Scope as TypeScope}
 use Rattle.fut_typing.specs.Typing.{Typed}
-use Rattle.sized_types.specs.Sizes.{Free, Variable, Size, Built, no_size}
+use Rattle.sized_types.specs.Sizes.{Free, Variable, Size, Built, Fun, no_size}
 use Rattle.fut_sizes.specs.Agreeing.{Answer}
 use Rattle.fut_sizes.specs.Applications.{Argument, Late, Part, Applied, whole}
 use Rattle.fut_sizes.specs.Primitives.{prim_size, is_regular}
@@ -22,18 +22,22 @@ use Rattle.fut_sizes.specs.Scopes.{Scope, used}
 use Rattle.fut_sizes.specs.Sizing.{as_argument, with_argument, sized}
 use Rattle.fut_sizes.specs.Steps.{State, Done}
 use Rattle.sizes_meet_rules.specs.Known.{Known_name, Known_names, Elsewhere}
-use Rattle.sizes_meet_rules.specs.Plain.{Flat_function, Plain_term, Plain_spine}
+use Rattle.sizes_meet_rules.specs.Plain.{Is_lambda, Is_primitive, Flat_function, Gives_data, Plain_term, Plain_spine}
 use Rattle.sizes_meet_rules.proofs.Applying.{Argument_meets, argument_meets, early_meets, value_is_known}
 use Rattle.sizes_meet_rules.proofs.Chains.{Given, argument_by, arguments, arrows_of}
 use Rattle.sizes_meet_rules.proofs.Heads.{a_name, a_primitive, Head, Primitive_head}
-use Rattle.sizes_meet_rules.proofs.Meeting.{then_ok, same_ok, elsewhere_narrower, Part_meets, Whole_meets, Is_applied, Waits}
+use Rattle.sizes_meet_rules.proofs.Meeting.{then_ok, same_ok, elsewhere_narrower, Part_meets, Whole_meets, Is_applied, Waits, Waits_wide}
 use Rattle.sizes_meet_rules.proofs.Noting.{Placed}
-use Rattle.sizes_meet_rules.proofs.Parts.{spine, spine_snoc, arguments_snoc, length_snoc, arrows_snoc, placed_snoc, Data_meets, Function_meets, Lambda_waits, All_given, One_waits, given_snoc, waits_snoc, function_snoc, data_snoc}
-use Rattle.sizes_meet_rules.proofs.Showing.{numbers_some, Law_of}
+use Rattle.sizes_meet_rules.proofs.Parts.{gives_lambda, spine, spine_snoc, arguments_snoc, length_snoc, arrows_snoc, placed_snoc, Data_meets, given_inner, Function_meets, Lambda_waits, Lambda_wide, All_given, One_waits, First_waits, given_snoc, waits_snoc, function_snoc, data_snoc, first_snoc}
+use Rattle.sizes_meet_rules.proofs.Showing.{numbers_some, Law_of, Wide_law}
 use Rattle.sizes_meet_rules.proofs.Using.{use_is}
 
 module _ (N : Names) (types : Sub) (home : ℕ → ℕ) (K : Kinds) (places : Kind) (data_places : 1 ≤ level places) where
   -- ---- a name and its arguments
+
+  abbrev pub Spine_meets : Bool → (Free → Type 0) → (Variable → Type 0) → Scope → List Given → State → State → Type 0 → Type 0
+  Spine_meets lambda In Vars scope given st A H = All_given N types home K places data_places In Vars scope given st A
+      ⊎ (((lambda ≡ false) × One_waits N types home K places data_places In Vars scope given st A × H) ⊎ ((lambda ≡ false) × First_waits N types home K places data_places In Vars scope given st A × H))
 
   pub record Spine (lambda : Bool) (In : Free → Type 0) (Vars : Variable → Type 0) (scope : Scope) (f : FlatTerm) (lo : ℕ) (st : State) (d : Done Part) : Type 0 where
     pub term : FlatTerm
@@ -48,7 +52,7 @@ module _ (N : Names) (types : Sub) (home : ℕ → ℕ) (K : Kinds) (places : Ki
     pub part : d.result ≡ Applied size regular (arguments given)
     pub placed : Placed given (lo + length (arguments given) + numbers term) (lo + numbers f)
     -- data alone, or one function among it, which a primitive takes
-    pub meet : All_given N types home K places data_places In Vars scope given st d.state ⊎ ((lambda ≡ false) × One_waits N types home K places data_places In Vars scope given st d.state × Primitive_head N types home K In Vars scope term size regular type)
+    pub meet : Spine_meets lambda In Vars scope given st d.state (Primitive_head N types home K In Vars scope term size regular type)
     pub of_lambda : lambda ≡ true → Primitive_head N types home K In Vars scope term size regular type
 
   abbrev pub Spine_law : FlatTerm → Type 1
@@ -135,6 +139,42 @@ module _ (N : Names) (types : Sub) (home : ℕ → ℕ) (K : Kinds) (places : Ki
       now : record { result = Late n W.waiting; state = part.state } ≡ argument
       now = same_ok (ap (λ p. as_argument N types n e p part.state) (sym W.is_waiting) ∙ q)
 
+  -- and one that takes the parameters which are wanted of it
+  record Wide_argument (e : FlatTerm) (n : ℕ) (In : Free → Type 0) (Vars : Variable → Type 0) (scope : Scope) (before : State) (part : Done Part) (argument : Done Argument) : Type 0 where
+    waits : Waits_wide N types home In Vars scope e n (n + numbers e) part.state part.result part.state
+    is_late : argument.result ≡ Late n waits.waiting
+    state : argument.state ≡ before
+
+  wide_argument : (e : FlatTerm) (n : ℕ) (In : Free → Type 0) (Vars : Variable → Type 0) (scope : Scope) (before : State) (part : Done Part) (argument : Done Argument) → Waits_wide N types home In Vars scope e n (n + numbers e) before part.result part.state → as_argument N types n e part.result part.state ≡ Ok argument → Wide_argument e n In Vars scope before part argument
+  wide_argument e n In Vars scope before part argument W q = record {
+    waits = record { waiting = W.waiting; is_waiting = W.is_waiting; unchanged = refl; of_function = W.of_function; typed_as = W.typed_as; as_wanted = W.as_wanted };
+    is_late = ap (λ (a : Done Argument). a.result) (sym now);
+    state = ap (λ (a : Done Argument). a.state) (sym now) ∙ W.unchanged;
+  }
+    where
+      now : record { result = Late n W.waiting; state = part.state } ≡ argument
+      now = same_ok (ap (λ p. as_argument N types n e p part.state) (sym W.is_waiting) ∙ q)
+
+  -- a primitive by itself
+  primitive_plain : (f : FlatTerm) (n : ℕ) → Is_primitive f → Plain_spine types home K places N true f n
+  primitive_plain (Use (ref.Prim p) at k) n i = tt
+  primitive_plain (Use (ref.Bound b) at k) n i = absurd i
+  primitive_plain (Use (ref.Scalar s) at k) n i = absurd i
+  primitive_plain (Strict o mark ts) n i = absurd i
+  primitive_plain (Lambda ps e) n i = absurd i
+  primitive_plain (Apply f e) n i = absurd i
+  primitive_plain (Let b v e) n i = absurd i
+  primitive_plain (If c a b) n i = absurd i
+  primitive_plain (Loop mark sizes p first turns body) n i = absurd i
+
+  spine_applied : (h e : FlatTerm) (gs : List Given) → Is_primitive (spine (Apply h e) gs) → ⊥
+  spine_applied h e [] i = i
+  spine_applied h e (g ∷ gs) i = spine_applied (Apply h e) g.term gs i
+
+  none_given : (f h : FlatTerm) (gs : List Given) → Is_primitive f → f ≡ spine h gs → gs ≡ []
+  none_given f h [] i z = refl
+  none_given f h (g ∷ gs) i z = absurd (spine_applied h g.term gs (subst Is_primitive z i))
+
   -- one argument more
   module _ (lambda : Bool) (f e : FlatTerm) (lf : Spine_law f) (le : Law_of N types home K places e) (In : Free → Type 0) (Vars : Variable → Type 0) (scope : Scope) (T : TypeScope) (lo : ℕ) (st : State) (d : Done Part) (pe : Plain_term types home K places N e (1 + lo + numbers f)) (t : Typed N places (Apply f e) lo T K types) (known : Known_names In Vars home scope K types T) (E : Elsewhere N types home lo (lo + numbers (Apply f e)) In) (R : Apply_ran f e lo (1 + lo + numbers f) scope st d) where
     some : 1 ≤ numbers e
@@ -156,7 +196,7 @@ module _ (N : Names) (types : Sub) (home : ℕ → ℕ) (K : Kinds) (places : Ki
       abbrev more_given : List Given
       more_given = S.given ++ g ∷ []
 
-      more : (All_given N types home K places data_places In Vars scope more_given st R.argument.state ⊎ ((lambda ≡ false) × One_waits N types home K places data_places In Vars scope more_given st R.argument.state × Primitive_head N types home K In Vars scope S.term S.size S.regular S.type)) → (lambda ≡ true → Primitive_head N types home K In Vars scope S.term S.size S.regular S.type) → Spine lambda In Vars scope (Apply f e) lo st d
+      more : Spine_meets lambda In Vars scope more_given st R.argument.state (Primitive_head N types home K In Vars scope S.term S.size S.regular S.type) → (lambda ≡ true → Primitive_head N types home K In Vars scope S.term S.size S.regular S.type) → Spine lambda In Vars scope (Apply f e) lo st d
       more m l = record {
         term = S.term;
         some = S.some;
@@ -170,7 +210,7 @@ module _ (N : Names) (types : Sub) (home : ℕ → ℕ) (K : Kinds) (places : Ki
         part = ap (λ (x : Done Part). x.result) after_is ∙ ap (Applied S.size S.regular) (ap (λ a. arguments S.given ++ a ∷ []) argument_is ∙ sym (arguments_snoc S.given g));
         placed = subst (λ m. Placed more_given (lo + m + numbers S.term) (lo + numbers (Apply f e))) (sym (length_snoc S.given g))
             (placed_snoc S.given g (lo + suc (length (arguments S.given)) + numbers S.term) (1 + lo + numbers f) (lo + numbers (Apply f e)) (subst (λ m. Placed S.given m (1 + lo + numbers f)) (omega arith) S.placed) node_is (ap (λ x. 1 + lo + numbers f + numbers x) term_is ∙ (let z : 1 + lo + numbers f + numbers e ≡ lo + numbers (Apply f e) = omega arith in z)));
-        meet = subst (λ x. All_given N types home K places data_places In Vars scope more_given st x ⊎ ((lambda ≡ false) × One_waits N types home K places data_places In Vars scope more_given st x × Primitive_head N types home K In Vars scope S.term S.size S.regular S.type)) (ap (λ (x : Done Part). x.state) (sym after_is)) m;
+        meet = subst (λ x. Spine_meets lambda In Vars scope more_given st x (Primitive_head N types home K In Vars scope S.term S.size S.regular S.type)) (ap (λ (x : Done Part). x.state) (sym after_is)) m;
         of_lambda = l;
       }
 
@@ -188,12 +228,12 @@ module _ (N : Names) (types : Sub) (home : ℕ → ℕ) (K : Kinds) (places : Ki
         g = record { node = 1 + lo + numbers f; value = A.value; named = A.named; size = A.size; term = e; width = 0; waits = None }
 
         M : Data_meets N types home K places data_places In Vars scope g R.function.state R.argument.state
-        M = (record { value_is = A.value_is; inner = A.inner; noted = A.here; value_known = value_is_known N types home K places data_places e (1 + lo + numbers f) In Vars scope T known t.0.1 }, (pd, refl))
+        M = (record { value_is = A.value_is; inner = given_inner N types home K places data_places In Vars scope g R.function.state R.argument.state A.inner; noted = A.here; value_known = value_is_known N types home K places data_places e (1 + lo + numbers f) In Vars scope T known t.0.1 }, (pd, refl))
 
-        by_meet : All_given N types home K places data_places In Vars scope S.given st R.function.state ⊎ ((lambda ≡ false) × One_waits N types home K places data_places In Vars scope S.given st R.function.state × Primitive_head N types home K In Vars scope S.term S.size S.regular S.type)
-            → All_given N types home K places data_places In Vars scope (S.given ++ g ∷ []) st R.argument.state ⊎ ((lambda ≡ false) × One_waits N types home K places data_places In Vars scope (S.given ++ g ∷ []) st R.argument.state × Primitive_head N types home K In Vars scope S.term S.size S.regular S.type)
+        by_meet : Spine_meets lambda In Vars scope S.given st R.function.state (Primitive_head N types home K In Vars scope S.term S.size S.regular S.type) → Spine_meets lambda In Vars scope (S.given ++ g ∷ []) st R.argument.state (Primitive_head N types home K In Vars scope S.term S.size S.regular S.type)
         by_meet (inl h) = inl (given_snoc N types home K places data_places In Vars scope S.given g st R.function.state R.argument.state h M)
-        by_meet (inr h) = inr (h.0, data_snoc N types home K places data_places In Vars scope S.given g st R.function.state R.argument.state h.1 M, h.2)
+        by_meet (inr (inl h)) = inr (inl (h.0, data_snoc N types home K places data_places In Vars scope S.given g st R.function.state R.argument.state h.1 M, h.2))
+        by_meet (inr (inr h)) = inr (inr (h.0, first_snoc N types home K places data_places In Vars scope S.given g st R.function.state R.argument.state h.1 M, h.2))
 
     -- and a function
     function_more : lambda ≡ false → Flat_function types home K places (types (1 + lo + numbers f)) → Plain_spine types home K places N true f (1 + lo) → Spine lambda In Vars scope (Apply f e) lo st d
@@ -203,16 +243,17 @@ module _ (N : Names) (types : Sub) (home : ℕ → ℕ) (K : Kinds) (places : Ki
         S = lf true In Vars scope T (1 + lo) st R.function pf t.0.0 known in_function R.function_is
 
         -- no function stands before it
-        before_it : All_given N types home K places data_places In Vars scope S.given st R.function.state ⊎ ((true ≡ false) × One_waits N types home K places data_places In Vars scope S.given st R.function.state × Primitive_head N types home K In Vars scope S.term S.size S.regular S.type) → All_given N types home K places data_places In Vars scope S.given st R.function.state
+        before_it : Spine_meets true In Vars scope S.given st R.function.state (Primitive_head N types home K In Vars scope S.term S.size S.regular S.type) → All_given N types home K places data_places In Vars scope S.given st R.function.state
         before_it (inl h) = h
-        before_it (inr h) = absurd (let z : true ≡ false = h.0 in cc)
+        before_it (inr (inl h)) = absurd (let z : true ≡ false = h.0 in cc)
+        before_it (inr (inr h)) = absurd (let z : true ≡ false = h.0 in cc)
 
         no_other : lambda ≡ true → Primitive_head N types home K In Vars scope S.term S.size S.regular S.type
         no_other z = absurd (let y : true ≡ false = sym z ∙ none in cc)
 
         -- a lambda
         late : Waits N types home In Vars scope e (1 + lo + numbers f) (1 + lo + numbers f + numbers e) R.function.state R.part.result R.part.state → Spine lambda In Vars scope (Apply f e) lo st d
-        late W = more true S g refl refl A.is_late (inr (none, waits_snoc N types home K places data_places In Vars scope S.given g st R.argument.state (subst (λ x. All_given N types home K places data_places In Vars scope S.given st x) (sym A.state) (before_it S.meet)) L, S.of_lambda refl)) no_other
+        late W = more true S g refl refl A.is_late (inr (inl (none, waits_snoc N types home K places data_places In Vars scope S.given g st R.argument.state (subst (λ x. All_given N types home K places data_places In Vars scope S.given st x) (sym A.state) (before_it S.meet)) L, S.of_lambda refl))) no_other
           where
             A : Lambda_argument e (1 + lo + numbers f) In Vars scope R.function.state R.part R.argument
             A = lambda_argument e (1 + lo + numbers f) In Vars scope R.function.state R.part R.argument W R.argument_is
@@ -225,7 +266,7 @@ module _ (N : Names) (types : Sub) (home : ℕ → ℕ) (K : Kinds) (places : Ki
 
         -- one whose sized type is known
         early : Whole_meets N types home In Vars scope e (1 + lo + numbers f) (1 + lo + numbers f + numbers e) R.function.state R.part.result R.part.state ⊎ Is_applied N types home In Vars scope e (1 + lo + numbers f) (1 + lo + numbers f + numbers e) R.function.state R.part.result R.part.state → Spine lambda In Vars scope (Apply f e) lo st d
-        early W = more true S g refl refl A.is_early (inr (none, function_snoc N types home K places data_places In Vars scope S.given g st R.function.state R.argument.state (before_it S.meet) M, S.of_lambda refl)) no_other
+        early W = more true S g refl refl A.is_early (inr (inl (none, function_snoc N types home K places data_places In Vars scope S.given g st R.function.state R.argument.state (before_it S.meet) M, S.of_lambda refl))) no_other
           where
             A : Argument_meets N types home K places data_places In Vars scope e (1 + lo + numbers f) (1 + lo + numbers f + numbers e) R.function.state R.argument.result R.argument.state
             A = early_meets N types home K places data_places In Vars scope e (1 + lo + numbers f) (1 + lo + numbers f + numbers e) R.function.state R.part.result R.part.state R.argument (let n = some in omega (arith, n)) W R.argument_is
@@ -234,19 +275,53 @@ module _ (N : Names) (types : Sub) (home : ℕ → ℕ) (K : Kinds) (places : Ki
             g = record { node = 1 + lo + numbers f; value = A.value; named = A.named; size = A.size; term = e; width = 0; waits = None }
 
             M : Function_meets N types home K places data_places In Vars scope g R.function.state R.argument.state
-            M = (record { value_is = A.value_is; inner = A.inner; noted = A.here; value_known = value_is_known N types home K places data_places e (1 + lo + numbers f) In Vars scope T known t.0.1 }, (flat, refl))
+            M = (record { value_is = A.value_is; inner = given_inner N types home K places data_places In Vars scope g R.function.state R.argument.state A.inner; noted = A.here; value_known = value_is_known N types home K places data_places e (1 + lo + numbers f) In Vars scope T known t.0.1 }, (flat, refl))
 
         by_part : Part_meets N types home In Vars scope e (1 + lo + numbers f) (1 + lo + numbers f + numbers e) R.function.state R.part.result R.part.state → Spine lambda In Vars scope (Apply f e) lo st d
         by_part (inl W) = early (inl W)
         by_part (inr (inl W)) = late W
         by_part (inr (inr W)) = early (inr W)
 
-  pub apply_spine : (f e : FlatTerm) → Spine_law f → Law_of N types home K places e → Spine_law (Apply f e)
-  apply_spine f e lf le lambda In Vars scope T lo st d pl t known E q = by_kind pl.0
+    -- and a lambda that takes the parameters which are wanted of it, by a primitive
+    wide_more : Wide_law N types home K places e → lambda ≡ false → Gives_data types home K places e (1 + lo + numbers f) → Is_primitive f → Spine lambda In Vars scope (Apply f e) lo st d
+    wide_more we none gives prim = more true S g refl refl A.is_late (inr (inr (none, subst (λ xs. First_waits N types home K places data_places In Vars scope (xs ++ g ∷ []) st R.argument.state) (sym no_given) (L, state_is), S.of_lambda refl))) no_other
+      where
+        S : Spine true In Vars scope f (1 + lo) st R.function
+        S = lf true In Vars scope T (1 + lo) st R.function (primitive_plain f (1 + lo) prim) t.0.0 known in_function R.function_is
+
+        W : Waits_wide N types home In Vars scope e (1 + lo + numbers f) (1 + lo + numbers f + numbers e) R.function.state R.part.result R.part.state
+        W = we In Vars scope T (1 + lo + numbers f) R.function.state R.part pe t.0.1 known in_argument R.part_is
+
+        A : Wide_argument e (1 + lo + numbers f) In Vars scope R.function.state R.part R.argument
+        A = wide_argument e (1 + lo + numbers f) In Vars scope R.function.state R.part R.argument W R.argument_is
+
+        g : Given
+        g = record { node = 1 + lo + numbers f; value = None; named = false; size = Fun 0 (Built head.Tuple no_size) (Built head.Tuple no_size); term = e; width = 0; waits = Some A.waits.waiting }
+
+        L : Lambda_wide N types home K places data_places In Vars scope g
+        L = record { st = R.part.state; part = R.part.result; waits = A.waits; waits_is = refl; value = refl; named = refl; is_fun = refl; gives = gives }
+
+        no_given : S.given ≡ []
+        no_given = none_given f S.term S.given prim S.is
+
+        by_meet : Spine_meets true In Vars scope S.given st R.function.state (Primitive_head N types home K In Vars scope S.term S.size S.regular S.type) → R.function.state ≡ st
+        by_meet (inl h) = subst (λ xs. All_given N types home K places data_places In Vars scope xs st R.function.state) no_given h
+        by_meet (inr (inl h)) = absurd (let z : true ≡ false = h.0 in cc)
+        by_meet (inr (inr h)) = absurd (let z : true ≡ false = h.0 in cc)
+
+        state_is : R.argument.state ≡ st
+        state_is = A.state ∙ by_meet S.meet
+
+        no_other : lambda ≡ true → Primitive_head N types home K In Vars scope S.term S.size S.regular S.type
+        no_other z = absurd (let y : true ≡ false = sym z ∙ none in cc)
+
+  pub apply_spine : (f e : FlatTerm) → Spine_law f → Law_of N types home K places e → (Is_lambda e → Wide_law N types home K places e) → Spine_law (Apply f e)
+  apply_spine f e lf le we lambda In Vars scope T lo st d pl t known E q = by_kind pl.0
     where
       R : Apply_ran f e lo (1 + lo + numbers f) scope st d
       R = apply_ran f e lo scope st d q
 
-      by_kind : (HasKind K places (types (1 + lo + numbers f)) × Plain_spine types home K places N lambda f (1 + lo)) ⊎ ((lambda ≡ false) × Flat_function types home K places (types (1 + lo + numbers f)) × Plain_spine types home K places N true f (1 + lo)) → Spine lambda In Vars scope (Apply f e) lo st d
+      by_kind : (HasKind K places (types (1 + lo + numbers f)) × Plain_spine types home K places N lambda f (1 + lo)) ⊎ (((lambda ≡ false) × Flat_function types home K places (types (1 + lo + numbers f)) × Plain_spine types home K places N true f (1 + lo)) ⊎ ((lambda ≡ false) × Gives_data types home K places e (1 + lo + numbers f) × Is_primitive f)) → Spine lambda In Vars scope (Apply f e) lo st d
       by_kind (inl h) = data_more lambda f e lf le In Vars scope T lo st d pl.1 t known E R h.0 h.1
-      by_kind (inr h) = function_more lambda f e lf le In Vars scope T lo st d pl.1 t known E R h.0 h.1 h.2
+      by_kind (inr (inl h)) = function_more lambda f e lf le In Vars scope T lo st d pl.1 t known E R h.0 h.1 h.2
+      by_kind (inr (inr h)) = wide_more lambda f e lf le In Vars scope T lo st d pl.1 t known E R (we (gives_lambda types home K places e (1 + lo + numbers f) h.1)) h.0 h.1 h.2

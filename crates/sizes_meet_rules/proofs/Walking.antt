@@ -1,5 +1,5 @@
 -- Each term of these forms meets the rules where it is sized.
-use Rattle.std.proofs.Common.{◌≡◌, ◌⊎◌, ℕ, suc, ◌+◌, ◌<◌, ◌≤◌, List, [], Bool, true, false, Ok, refl, sym, ap, ◌∙◌, subst, arith, inl, inr}
+use Rattle.std.proofs.Common.{◌≡◌, ◌⊎◌, ℕ, suc, ◌+◌, ◌<◌, ◌≤◌, List, [], Bool, true, false, ◌||◌, Some, None, Ok, refl, sym, ap, ◌∙◌, subst, arith, inl, inr}
 use Rattle.fut_scalar.specs.declared.place.BindId.{BindId}
 use Rattle.fut_scalar.specs.declared.place.Place.{Place}
 use Rattle.fut_flat.specs.declared.prim.Primitive.{Primitive}
@@ -9,7 +9,7 @@ use Rattle.fut_flat.specs.Numbers.{pattern_numbers, all_pattern_numbers, own_num
 use Rattle.fut_flat.specs.Terms.{Size_term, Size_use, Array_type, Unique_type, Tuple_type, Record_type, Type_terms, no_type, type_and, Coerce, Declared, Patterns, no_pattern, pattern_and, Operation, Binary, Project, Use, Strict, Lambda, Apply, Let, If, Loop, Terms, no_term, term_and, Counted, Over, While}
 use Rattle.fut_flat.specs.Erased.{FlatTerm, FlatType, FlatTurns, FlatPattern}
 use Rattle.fut_types.specs.declared.Kind.{Kind}
-use Rattle.fut_types.specs.Types.{Ty, fun_ty, more, Sub, Kinds, HasKind, rank, level, applied}
+use Rattle.fut_types.specs.Types.{Ty, fun_ty, more, Sub, Kinds, HasKind, rank, level}
 use Rattle.fut_typing.specs.Names.{Names}
 use Rattle.fut_typing.specs.Patterns.{pattern_types, arrows, with_patterns as all_typed_with}
 use Rattle.fut_typing.specs.Scopes.{Scope as TypeScope, the_one}
@@ -18,34 +18,38 @@ use Rattle.fut_typing.specs.Rules.{Rule, Written}
 use Rattle.fut_typing.specs.Typing.{operand, term_types, Typed, All_typed}
 use Rattle.sized_types.specs.Sizes.{Free, Const, Name, Own, Unknown, Slot, Variable, Size, Sizes, no_size, size_and, erased, all_erased, levels}
 use Rattle.fut_sizes.specs.Agreeing.{is_among, Answer, kept}
-use Rattle.fut_sizes.specs.Applications.{Met, Part, Applied, whole}
+use Rattle.fut_sizes.specs.Applications.{Want, Met, Part, Applied, whole}
 use Rattle.fut_sizes.specs.Operations.{operation}
-use Rattle.fut_sizes.specs.Primitives.{scalar_size, prim_size}
+use Rattle.fut_sizes.specs.Primitives.{prim_size}
 use Rattle.fut_sizes.specs.Rules.{Filled_use, Size_found, Sizes_found, All_sizes_found, Compared_found, Outside, Takes, Away, part_sizes, Branches, Sized, All_sized}
-use Rattle.fut_sizes.specs.Scopes.{Scope, used}
+use Rattle.fut_sizes.specs.Scopes.{Scope, used, all_names}
 use Rattle.fut_sizes.specs.Scoping.{Context}
-use Rattle.fut_sizes.specs.Sizing.{finished, second_noted, with_head, all_part_names, sized, all_sized, turns_sized, turns_from}
+use Rattle.fut_sizes.specs.Sizing.{Entered, all_entered, own_sizes, finished, second_noted, with_head, all_part_names, sized, all_sized, turns_sized, turns_from}
 use Rattle.fut_sizes.specs.Steps.{State, Done, ask}
 use Rattle.fut_sizes.specs.Suiting.{Each, Scoped, Data}
 use Rattle.sizes_meet_rules.specs.Known.{Says, Is_const, Known_name, Known_names, Judged, Elsewhere}
-use Rattle.sizes_meet_rules.specs.Plain.{Plain_head, Plain_operation, Plain_term, Plain_terms}
+use Rattle.sizes_meet_rules.specs.Plain.{Is_lambda, Plain_parts, Plain_patterns, Plain_operation, Plain_term, Plain_terms}
 use Rattle.sizes_meet_rules.proofs.Replacing.{all_each_as}
 use Rattle.sizes_meet_rules.proofs.Forming.{data_of, erased_kept, formed_kept, variables_kept, sizes_kept}
-use Rattle.sizes_meet_rules.proofs.Meeting.{then_ok, asked, same_ok, at_itself, at_another, Met_in, With_met, each_scoped, met_wider, met_outside, says_more, scoped_as, elsewhere_narrower, away_of, Inner, Meets, Part_meets}
-use Rattle.sizes_meet_rules.proofs.Showing.{own_some, numbers_some, Law_of, alone, sizes_written}
+use Rattle.sizes_meet_rules.proofs.Meeting.{Then_ok, then_ok, Asked, asked, same_ok, at_itself, at_another, Met_in, With_met, each_scoped, met_wider, met_outside, says_more, scoped_as, elsewhere_narrower, away_of, Inner, Meets, In_nodes, Around, Data_wanted, stands_wanted, Same_parameters, Wide_ran, Part_meets}
+use Rattle.sizes_meet_rules.proofs.Showing.{own_some, numbers_some, Law_of, Wide_law, alone, sizes_written}
 use Rattle.sizes_meet_rules.proofs.Letting.{Law_headed, any_let}
-use Rattle.sizes_meet_rules.proofs.Looping.{Law_turns, scalar_says, Loop_ran, Loop_meets, loop_meets}
+use Rattle.sizes_meet_rules.proofs.Looping.{Law_turns, Loop_ran, Loop_meets, loop_meets}
 use Rattle.sizes_meet_rules.proofs.Binding.{leaves}
-use Rattle.sizes_meet_rules.proofs.Entering.{takings, all_bound, own_nodes_as, Lambda_ran, lambda_ran}
+use Rattle.sizes_meet_rules.proofs.Coming.{Come_as, come_of, come_as, wanted_in, All_entered, wanted_is, all_come, standing_wanted, function_shape}
+use Rattle.sizes_meet_rules.proofs.Entering.{takings, all_bound, Own_nodes, own_nodes_as, Lambda_ran, lambda_ran, after_rest}
+use Rattle.sizes_meet_rules.proofs.Finding.{standing, Unnamed_by, takes_less, with_standing, with_standing_same}
 use Rattle.sizes_meet_rules.proofs.Primitives.{closed_is, closed_typed, closed_says}
 use Rattle.sizes_meet_rules.proofs.Applied.{apply_part}
 use Rattle.sizes_meet_rules.proofs.Spines.{Spine_law, use_spine, primitive_spine, apply_spine}
-use Rattle.sizes_meet_rules.proofs.Parameters.{Rest, all_rest}
-use Rattle.sizes_meet_rules.proofs.Wanting.{lambda_waits, as_alone}
+use Rattle.sizes_meet_rules.proofs.Parameters.{All_come, Come_head, none_headed, Rest, all_rest, own_head, own_come}
+use Rattle.sizes_meet_rules.proofs.Wanting.{lambda_goes, lambda_waits, Went, went, as_alone}
 use Rattle.sizes_meet_rules.proofs.Heading.{headless, heads_there, judged_headed, known_headless}
 use Rattle.sizes_meet_rules.proofs.Functions.{Unmet, met_between}
-use Rattle.fut_sizes.specs.Functions.{function_size}
-use Rattle.sizes_meet_rules.proofs.Naming.{With_head, no_function, number_name}
+use Rattle.fut_sizes.specs.Functions.{Taking, is_slot, function_size}
+use Rattle.fut_sizes.specs.Matching.{Found, nothing_found, none_opened, function_way, meet}
+use Rattle.sizes_meet_rules.proofs.Taking.{all_names_home}
+use Rattle.sizes_meet_rules.proofs.Naming.{With_head, known_wider, or_first, or_later, no_function, number_name}
 use Rattle.sizes_meet_rules.proofs.Using.{use_is, use_rules, used_itself, used_closed}
 use Rattle.sizes_meet_rules.proofs.Settling.{noted}
 use Rattle.sizes_meet_rules.proofs.Operating.{Size_written, Sizes_written, All_sizes_written, All_say, none_say, more_say, Gives, Written_named, Size_named, Sizes_named, number_is, operation_gives}
@@ -411,8 +415,8 @@ module _ (N : Names) (types : Sub) (home : ℕ → ℕ) (K : Kinds) (places : Ki
 
   -- ---- functions
 
-  module _ (bs : List ℕ) (p : FlatPattern) (ps : Patterns Ref BindId) (e : FlatTerm) (le : Law e) (In : Free → Type 0) (Vars : Variable → Type 0) (scope : Scope) (T : TypeScope) (lo : ℕ) (hd : Plain_head types home K places N bs (pattern_and p ps) (1 + lo)) (pl : Plain_term types home K places N (Lambda (pattern_and p ps) e) lo) (t : Typed N places (Lambda (pattern_and p ps) e) lo T K types)
-      (known : Known_names (With_head bs In) Vars home (with_head N types bs scope) K types T) (at hi : ℕ) (m1 : 1 + lo + all_pattern_numbers (pattern_and p ps) ≡ at) (m2 : at + numbers e ≡ hi) (E : Elsewhere N types home lo hi In) (before : State) (m : Done Met) (R : Lambda_ran N types home K places bs (pattern_and p ps) e lo at hi (with_head N types bs scope) before m) where
+  module _ (bs : List ℕ) (p : FlatPattern) (ps : Patterns Ref BindId) (e : FlatTerm) (le : Law e) (In : Free → Type 0) (Vars : Variable → Type 0) (scope : Scope) (T : TypeScope) (lo : ℕ) (come : ℕ → Size) (W : Free → Type 0) (hd : Come_head N types home K places data_places come W bs (pattern_and p ps) (1 + lo)) (come_there : All_come N types home K places data_places come W (pattern_and p ps) (1 + lo)) (wide : (d : Free) → W d → In d) (pl : Plain_term types home K places N (Lambda (pattern_and p ps) e) lo) (t : Typed N places (Lambda (pattern_and p ps) e) lo T K types)
+      (known : Known_names (With_head bs In) Vars home (with_head N types bs scope) K types T) (at hi : ℕ) (m1 : 1 + lo + all_pattern_numbers (pattern_and p ps) ≡ at) (m2 : at + numbers e ≡ hi) (E : Elsewhere N types home lo hi In) (before : State) (m : Done Met) (R : Lambda_ran N types home K places come bs (pattern_and p ps) e lo at hi (with_head N types bs scope) before m) where
     abbrev all : Patterns Ref BindId
     all = pattern_and p ps
 
@@ -420,9 +424,9 @@ module _ (N : Names) (types : Sub) (home : ℕ → ℕ) (K : Kinds) (places : Ki
     at_hi = let n = numbers_some e in omega (arith, m2, n)
 
     abbrev lambda_size : Size
-    lambda_size = function_size bs lo hi (takings N types home K places all (1 + lo)) R.left
+    lambda_size = function_size bs lo hi (takings N types home K places come all (1 + lo)) R.left
 
-    body_meets : (In' : Free → Type 0) (scope' : Scope) (T' : TypeScope) → Typed N places e at T' K types → Known_names In' Vars home scope' K types T' → Elsewhere N types home at hi In' → scope' ≡ all_bound N types home K places all (1 + lo) (with_head N types bs scope) → Meets N types home In' Vars scope' e at hi R.parameters R.body.result R.body.state
+    body_meets : (In' : Free → Type 0) (scope' : Scope) (T' : TypeScope) → Typed N places e at T' K types → Known_names In' Vars home scope' K types T' → Elsewhere N types home at hi In' → scope' ≡ all_bound N types home K places come all (1 + lo) (with_head N types bs scope) → Meets N types home In' Vars scope' e at hi R.parameters R.body.result R.body.state
     body_meets In' scope' T' t' k E' z = subst (λ n. Meets N types home In' Vars scope' e at n R.parameters R.body.result R.body.state) m2
         (alone N types home K places e le In' Vars scope' T' at R.parameters R.part R.body (subst (λ n. Plain_term types home K places N e n) m1 pl.1) t' k (subst (λ n. Elsewhere N types home at n In') (sym m2) E') (ap (λ w. sized N types e [] at w R.parameters) z ∙ R.part_is) R.body_is)
 
@@ -430,15 +434,18 @@ module _ (N : Names) (types : Sub) (home : ℕ → ℕ) (K : Kinds) (places : Ki
     met_inside : Unmet lo hi In
     met_inside n i x y = E.outside (Unknown n i) x (met_between lo hi n i y)
 
-    rest : Rest N types home K places data_places e lo at hi at_hi (all_part_names all) R.body.result R.left (leaves lo (all_part_names all) R.body.result R.left R.leaves.1) R.parameters R.body.state Vars (all_bound N types home K places all (1 + lo) (with_head N types bs scope)) body_meets bs all (1 + lo) In (with_head N types bs scope)
-    rest = all_rest N types home K places data_places e lo at hi at_hi (all_part_names all) R.body.result R.left (leaves lo (all_part_names all) R.body.result R.left R.leaves.1) R.parameters R.body.state Vars (all_bound N types home K places all (1 + lo) (with_head N types bs scope)) body_meets
-        all bs (1 + lo) In (with_head N types bs scope) T m1 (omega arith) pl.0 hd R.none_left_there (heads_there N types bs scope) t.0.0 R.fit (λ n i x y. met_inside n i x y) R.leaves.0 (λ b e. e) (subst (λ n. Typed N places e n (all_typed_with the_one all (1 + lo) T) K types) m1 t.0.1) known (narrower In lo hi (1 + lo) hi (omega arith) (omega arith) E) (narrower In lo hi lo (1 + lo) (omega arith) (omega (arith, m1, at_hi)) E) refl
+    rest : Rest N types home K places data_places come W e lo at hi at_hi (all_part_names all) R.body.result R.left (leaves lo (all_part_names all) R.body.result R.left R.leaves.1) R.parameters R.body.state Vars (all_bound N types home K places come all (1 + lo) (with_head N types bs scope)) body_meets bs all (1 + lo) In (with_head N types bs scope)
+    rest = all_rest N types home K places data_places come W e lo at hi at_hi (all_part_names all) R.body.result R.left (leaves lo (all_part_names all) R.body.result R.left R.leaves.1) R.parameters R.body.state Vars (all_bound N types home K places come all (1 + lo) (with_head N types bs scope)) body_meets
+        all bs (1 + lo) In (with_head N types bs scope) T m1 (omega arith) pl.0 hd come_there wide R.none_left_there (heads_there N types bs scope) t.0.0 R.fit (λ n i x y. met_inside n i x y) R.leaves.0 (λ b e. e) (subst (λ n. Typed N places e n (all_typed_with the_one all (1 + lo) T) K types) m1 t.0.1) known (narrower In lo hi (1 + lo) hi (omega arith) (omega arith) E) (narrower In lo hi lo (1 + lo) (omega arith) (omega (arith, m1, at_hi)) E) refl
 
     node_lo : m.state.nodes lo ≡ lambda_size
     node_lo = ap (λ (x : State). x.nodes lo) R.state ∙ at_itself lo lambda_size R.body.state.nodes
 
     node_else : (n : ℕ) → (lo ≡ n → ⊥) → m.state.nodes n ≡ R.body.state.nodes n
     node_else n h = ap (λ (x : State). x.nodes n) R.state ∙ at_another lo n lambda_size R.body.state.nodes h
+
+    pub own_there : (s : ℕ → Size) → ((n : ℕ) → lo ≤ n → n < hi → s n ≡ m.state.nodes n) → Own_nodes N types home K places come all (1 + lo) s
+    own_there s a = own_nodes_as N types home K places come all (1 + lo) R.parameters.nodes s (λ n x y. let l = at_hi in a n (omega (arith, x)) (omega (arith, y, m1, l)) ∙ node_else n (λ z. omega (arith, x, z)) ∙ rest.kept n (inl (omega (arith, y, m1)))) R.noted_is.own
 
     const_met : (x : Free) → (In x ⊎ Is_const x) × ((b : ℕ) → x ≡ Name b → is_among (all_part_names all) b ≡ false) → With_met In lo hi x
     const_met x (inl i, bare) = inl i
@@ -480,8 +487,7 @@ module _ (N : Names) (types : Sub) (home : ℕ → ℕ) (K : Kinds) (places : Ki
         rules s G judged a =
             let l = at_hi in
             let in_body : (n : ℕ) → at ≤ n → n < hi → s n ≡ R.body.state.nodes n = λ n x y. a n (omega (arith, x, m1)) y ∙ node_else n (λ z. omega (arith, x, m1, z)) in
-            let in_parameters : (n : ℕ) → 1 + lo ≤ n → n < 1 + lo + all_pattern_numbers all → s n ≡ R.parameters.nodes n = λ n x y. a n (omega (arith, x)) (omega (arith, y, m1, l)) ∙ node_else n (λ z. omega (arith, x, z)) ∙ rest.kept n (inl (omega (arith, y, m1))) in
-            let own = own_nodes_as N types home K places all (1 + lo) R.parameters.nodes s in_parameters R.noted_is.own in
+            let own = own_there s a in
             let here : lambda_size ≡ s lo = sym (a lo (omega arith) (omega (arith, m1, l)) ∙ node_lo) in
             subst (λ w. Takes N types s home (Sized N types s home e (1 + lo + all_pattern_numbers all)) (all_part_names all) all lo (1 + lo) (1 + lo + all_pattern_numbers all) (1 + lo + all_pattern_numbers all + numbers e) w G) here
             (subst (λ n. Takes N types s home (Sized N types s home e n) (all_part_names all) all lo (1 + lo) n (n + numbers e) lambda_size G) (sym m1)
@@ -493,13 +499,13 @@ module _ (N : Names) (types : Sub) (home : ℕ → ℕ) (K : Kinds) (places : Ki
     waiting = lambda_waits N types home K places bs (pattern_and p ps) e lo (with_head N types bs scope);
     is_waiting = ap (λ (x : Done Part). x.result) (sym (same_ok q));
     unchanged = ap (λ (x : Done Part). x.state) (sym (same_ok q));
-    known_sizes = λ before m z. lambda_knows bs p ps e le In Vars scope T lo hd pl t known (1 + lo + all_pattern_numbers (pattern_and p ps)) (1 + lo + all_pattern_numbers (pattern_and p ps) + numbers e) refl refl (subst (λ n. Elsewhere N types home lo n In) last E) before m
+    known_sizes = λ before m z. lambda_knows bs p ps e le In Vars scope T lo (own_sizes N types) (λ d. ⊥) (own_head N types home K places data_places (λ d. ⊥) (pattern_and p ps) bs (1 + lo) hd) (own_come N types home K places data_places (λ d. ⊥) (pattern_and p ps) (1 + lo)) (λ d i. absurd i) pl t known (1 + lo + all_pattern_numbers (pattern_and p ps)) (1 + lo + all_pattern_numbers (pattern_and p ps) + numbers e) refl refl (subst (λ n. Elsewhere N types home lo n In) last E) before m
         (lambda_ran N types home K places bs (pattern_and p ps) e lo (1 + lo + all_pattern_numbers (pattern_and p ps)) (1 + lo + all_pattern_numbers (pattern_and p ps) + numbers e) data_places T pl.0 t.0.0 (with_head N types bs scope) before m z);
     of_function = (types (1 + lo), (arrows (pattern_types types ps (1 + lo + pattern_numbers p)) (types (1 + lo + all_pattern_numbers (pattern_and p ps))), t.1));
     is_lambda = tt;
     typed_as = t.1;
     by_itself = λ before m z. subst (λ n. Meets N types home In Vars scope (Lambda (pattern_and p ps) e) lo n before m.result.size m.state) (sym last)
-        (lambda_meets bs p ps e le In Vars scope T lo hd pl t known (1 + lo + all_pattern_numbers (pattern_and p ps)) (1 + lo + all_pattern_numbers (pattern_and p ps) + numbers e) refl refl (subst (λ n. Elsewhere N types home lo n In) last E) before m
+        (lambda_meets bs p ps e le In Vars scope T lo (own_sizes N types) (λ d. ⊥) (own_head N types home K places data_places (λ d. ⊥) (pattern_and p ps) bs (1 + lo) hd) (own_come N types home K places data_places (λ d. ⊥) (pattern_and p ps) (1 + lo)) (λ d i. absurd i) pl t known (1 + lo + all_pattern_numbers (pattern_and p ps)) (1 + lo + all_pattern_numbers (pattern_and p ps) + numbers e) refl refl (subst (λ n. Elsewhere N types home lo n In) last E) before m
         (lambda_ran N types home K places bs (pattern_and p ps) e lo (1 + lo + all_pattern_numbers (pattern_and p ps)) (1 + lo + all_pattern_numbers (pattern_and p ps) + numbers e) data_places T pl.0 t.0.0 (with_head N types bs scope) before m z));
     as_wanted = λ w σ before m f z. as_alone N types home K places bs (pattern_and p ps) e lo (with_head N types bs scope) w σ before m pl.0 f z;
   }
@@ -509,6 +515,153 @@ module _ (N : Names) (types : Sub) (home : ℕ → ℕ) (K : Kinds) (places : Ki
 
   lambda_part : (p : FlatPattern) (ps : Patterns Ref BindId) (e : FlatTerm) → Law e → Law (Lambda (pattern_and p ps) e)
   lambda_part p ps e le In Vars scope T lo st d pl t known E q = inr (inl (lambda_headed p ps e le [] In Vars scope T lo st d tt (headless types home K places N (pattern_and p ps) (1 + lo)) pl t (known_headless N types home K places In Vars scope T known) E q))
+
+  -- ---- a lambda that takes the data which is wanted of its parameters
+
+  plain_parts : (ps : Patterns Ref BindId) (q : ℕ) → Plain_patterns types home K places ps q → Plain_parts types home K places ps q
+  plain_parts no_pattern q h = tt
+  plain_parts (pattern_and p ps) q h = (h.0, plain_parts ps (q + pattern_numbers p) h.3)
+
+  module _ (p : FlatPattern) (ps : Patterns Ref BindId) (e : FlatTerm) (le : Law e) (In : Free → Type 0) (Vars : Variable → Type 0) (scope : Scope) (T : TypeScope) (lo at hi : ℕ) (m1 : 1 + lo + all_pattern_numbers (pattern_and p ps) ≡ at) (m2 : at + numbers e ≡ hi) (pl : Plain_term types home K places N (Lambda (pattern_and p ps) e) lo) (t : Typed N places (Lambda (pattern_and p ps) e) lo T K types)
+      (known : Known_names In Vars home scope K types T) (E : Elsewhere N types home lo hi In) (w : Want) (σ : Found) (before : State) (m : Done Met) (f : Data_wanted types (Around N types home lo hi) (pattern_and p ps) (1 + lo) w.size) where
+    abbrev both : Patterns Ref BindId
+    both = pattern_and p ps
+
+    abbrev come : ℕ → Size
+    come = come_of both (1 + lo) w.size
+
+    abbrev Outer : Free → Type 0
+    Outer d = Around N types home lo hi d
+
+    abbrev Stands : Free → Type 0
+    Stands d = standing N types home K places come both (1 + lo) d ≡ true
+
+    abbrev Wider : Free → Type 0
+    Wider d = In d ⊎ Stands d
+
+    as_come : Come_as come both (1 + lo) w.size
+    as_come = come_as types Outer both (1 + lo) w.size f
+
+    module _ (X : Entered) (entered : All_entered N types home K places data_places Outer (λ d o. o.0) come lo both (1 + lo) scope [] σ X) (W : Went N types home K places [] both e lo w X before m) (R : Lambda_ran N types home K places come [] both e lo at hi scope before W.alone) where
+      wanted_there : (d : Free) → Stands d → stands_wanted both w.size d ≡ true
+      wanted_there d s = standing_wanted N types home K places data_places Outer (λ d o. o.0) come lo both (1 + lo) w.size f as_come entered.are d s
+
+      outer : (d : Free) → Stands d → Outer d
+      outer d s = wanted_in types Outer both (1 + lo) w.size f d (wanted_there d s)
+
+      wider_elsewhere : Elsewhere N types home lo hi Wider
+      wider_elsewhere = record { no_slot = no_slot; outside = outside }
+        where
+          no_slot : (d : Free) → Wider d → is_slot d ≡ false
+          no_slot d (inl i) = E.no_slot d i
+          no_slot d (inr s) = (outer d s).0
+
+          outside : (d : Free) → Wider d → In_nodes N types home lo hi d → ⊥
+          outside d (inl i) o = E.outside d i o
+          outside d (inr s) o = (outer d s).1 o
+
+      wider_known : Known_names (With_head [] Wider) Vars home scope K types T
+      wider_known = known_headless N types home K places Wider Vars scope T (λ b u a. known_wider N types K places Wider Vars home In Vars (λ d i. inl i) (λ v i. i) scope b u (known b u a))
+
+      come_there : All_come N types home K places data_places come Stands both (1 + lo)
+      come_there = all_come N types home K places data_places Outer (λ d o. o.0) come lo Stands both (1 + lo) w.size pl.0 f as_come entered.are (λ d s. s)
+
+      as_wide : Meets N types home Wider Vars scope (Lambda both e) lo hi before W.alone.result.size W.alone.state
+      as_wide = lambda_meets [] p ps e le Wider Vars scope T lo come Stands (none_headed N types home K places data_places come Stands both (1 + lo)) come_there (λ d i. inr i) pl t wider_known at hi m1 m2 wider_elsewhere before W.alone R
+
+      own_nodes : (s : ℕ → Size) → ((n : ℕ) → lo ≤ n → n < hi → s n ≡ W.alone.state.nodes n) → Own_nodes N types home K places come both (1 + lo) s
+      own_nodes s a = own_there [] p ps e le Wider Vars scope T lo come Stands (none_headed N types home K places data_places come Stands both (1 + lo)) come_there (λ d i. inr i) pl t wider_known at hi m1 m2 wider_elsewhere before W.alone R s a
+
+      -- no name of a parameter is wanted
+      unnamed : Unnamed_by (standing N types home K places come both (1 + lo)) (all_names both)
+      unnamed b k = by_standing (standing N types home K places come both (1 + lo) (Name b)) refl
+        where
+          by_standing : (c : Bool) → standing N types home K places come both (1 + lo) (Name b) ≡ c → standing N types home K places come both (1 + lo) (Name b) ≡ false
+          by_standing false z = z
+          by_standing true z = absurd (let h = all_names_home types home K places both (1 + lo) (plain_parts both (1 + lo) pl.0) b k in let x = h.0 in let y = h.1 in (outer (Name b) z).1 (omega (arith, x), omega (arith, y, m1, m2)))
+
+      at_in : at < hi
+      at_in = let n = numbers_some e in omega (arith, m2, n)
+
+      wide_judged : (G : Context) → Judged In Vars scope G → Judged Wider Vars scope (with_standing N types home K places come both (1 + lo) G)
+      wide_judged G J = record { sizes = J.sizes; schemes = J.schemes; none_open = J.none_open; finds = finds; finds_types = J.finds_types }
+        where
+          by_known : (d : Free) → (G.finds d ≡ true) ⊎ Is_const d → (G.finds d || standing N types home K places come both (1 + lo) d ≡ true) ⊎ Is_const d
+          by_known d (inl z) = inl (or_first (G.finds d) (standing N types home K places come both (1 + lo) d) z)
+          by_known d (inr c) = inr c
+
+          finds : (d : Free) → Wider d → (G.finds d || standing N types home K places come both (1 + lo) d ≡ true) ⊎ Is_const d
+          finds d (inl i) = by_known d (J.finds d i)
+          finds d (inr s) = inl (or_later (G.finds d) (standing N types home K places come both (1 + lo) d) s)
+
+      wide_rules : (s : ℕ → Size) (G : Context) → Judged In Vars scope G → ((n : ℕ) → lo ≤ n → n < hi → s n ≡ W.alone.state.nodes n) → Sized N types s home (Lambda both e) lo G
+      wide_rules s G J a = takes_less N types home K places come s lo (1 + lo + all_pattern_numbers both) (1 + lo + all_pattern_numbers both + numbers e) (all_part_names both) (Sized N types s home e (1 + lo + all_pattern_numbers both)) both (1 + lo) (s lo) (with_standing N types home K places come both (1 + lo) G) G
+          (with_standing_same N types home K places come both (1 + lo) G) unnamed (own_nodes s a) (as_wide.rules s (with_standing N types home K places come both (1 + lo) G) (wide_judged G J) a)
+
+      says_there : (d : Free) → With_met Wider lo hi d → With_met In lo hi d ⊎ (stands_wanted both w.size d ≡ true)
+      says_there d (inl (inl i)) = inl (inl i)
+      says_there d (inl (inr s)) = inr (wanted_there d s)
+      says_there d (inr i) = inl (inr i)
+
+      wide_ran : Wide_ran N types home In Vars scope (Lambda both e) lo hi w σ before m
+      wide_ran = record {
+        says = subst (Says (λ d. With_met In lo hi d ⊎ (stands_wanted both w.size d ≡ true)) Vars) W.size (says_more (With_met Wider lo hi) (λ d. With_met In lo hi d ⊎ (stands_wanted both w.size d ≡ true)) Vars W.alone.result.size says_there as_wide.says);
+        typed = ap erased (sym W.size) ∙ as_wide.typed;
+        here = ap (λ (x : State). x.nodes lo) (sym W.state) ∙ as_wide.here ∙ W.size;
+        kept = λ n o. ap (λ (x : State). x.nodes n) (sym W.state) ∙ as_wide.kept n o;
+        dropped = λ n o. ap (λ (x : State). x.dropped n) (sym W.state) ∙ as_wide.dropped n o;
+        rules = λ s G J a. wide_rules s G J (λ n x y. a n x y ∙ ap (λ (z : State). z.nodes n) (sym W.state));
+        parameters = subst (Same_parameters both w.size) (sym R.size ∙ W.size) (function_shape N types home K places data_places lo hi come both (1 + lo) w.size R.left pl.0 (omega arith) (let n = at_in in omega (arith, m1, n)) f as_come entered.are);
+        met = ap (meet w.node (function_way w.is_regular) lo none_opened w.size none_opened m.result.size) (sym entered.found) ∙ W.met;
+      }
+
+    -- from its steps
+    lambda_takes : at ≡ 1 + lo + all_pattern_numbers both → hi ≡ 1 + lo + all_pattern_numbers both + numbers e → lambda_waits N types home K places [] both e lo scope (Some w) σ before ≡ Ok m → Wide_ran N types home In Vars scope (Lambda both e) lo hi w σ before m
+    lambda_takes n1 n2 z = wide_ran X entered W R
+      where
+        first : Entered
+        first = record { scope = scope; parameters = []; wanted = Some w.size; found = σ }
+
+        x1 : Then_ok (ask (all_entered N types lo both (1 + lo) first) before) (λ y. lambda_goes N types home K places [] both e lo (Some w) y.result y.state) m
+        x1 = then_ok (ask (all_entered N types lo both (1 + lo) first) before) z
+
+        X : Entered
+        X = x1.first.result
+
+        a1 : Asked (all_entered N types lo both (1 + lo) first) before x1.first
+        a1 = asked (all_entered N types lo both (1 + lo) first) before x1.first x1.done
+
+        entered : All_entered N types home K places data_places Outer (λ d o. o.0) come lo both (1 + lo) scope [] σ X
+        entered = wanted_is N types home K places data_places Outer (λ d o. o.0) come lo both (1 + lo) w.size T scope [] σ X pl.0 t.0.0 f as_come a1.answer
+
+        W : Went N types home K places [] both e lo w X before m
+        W = went N types home K places [] both e lo w X before m (ap (lambda_goes N types home K places [] both e lo (Some w) X) (sym a1.state) ∙ x1.rest)
+
+        goes : Scope → List Taking → Answer (Done Met)
+        goes inner ts = lambda_goes N types home K places [] both e lo None (record { scope = inner; parameters = ts; wanted = None; found = nothing_found }) before
+
+        ran : goes (all_bound N types home K places come both (1 + lo) scope) (takings N types home K places come both (1 + lo)) ≡ Ok W.alone
+        ran = ap (λ y. goes y (takings N types home K places come both (1 + lo))) (sym entered.scope_is) ∙ ap (goes X.scope) (sym entered.parameters) ∙ W.ran
+
+        R : Lambda_ran N types home K places come [] both e lo at hi scope before W.alone
+        R = subst (λ n. Lambda_ran N types home K places come [] both e lo at n scope before W.alone) (sym n2) (subst (λ n. Lambda_ran N types home K places come [] both e lo n (1 + lo + all_pattern_numbers both + numbers e) scope before W.alone) (sym n1)
+            (after_rest N types home K places come [] both e lo (1 + lo + all_pattern_numbers both) (1 + lo + all_pattern_numbers both + numbers e) pl.0 entered.fit scope before W.alone ran))
+
+  lambda_wide : (p : FlatPattern) (ps : Patterns Ref BindId) (e : FlatTerm) → Law e → Wide_law N types home K places (Lambda (pattern_and p ps) e)
+  unfolding sized
+  lambda_wide p ps e le In Vars scope T lo st d pl t known E q = record {
+    waiting = lambda_waits N types home K places [] (pattern_and p ps) e lo scope;
+    is_waiting = ap (λ (x : Done Part). x.result) (sym (same_ok q));
+    unchanged = ap (λ (x : Done Part). x.state) (sym (same_ok q));
+    of_function = (types (1 + lo), (arrows (pattern_types types ps (1 + lo + pattern_numbers p)) (types (1 + lo + all_pattern_numbers (pattern_and p ps))), t.1));
+    typed_as = t.1;
+    as_wanted = λ w σ before m f z. subst (λ n. Wide_ran N types home In Vars scope (Lambda (pattern_and p ps) e) lo n w σ before m) (sym last)
+        (lambda_takes p ps e le In Vars scope T lo (1 + lo + all_pattern_numbers (pattern_and p ps)) (1 + lo + all_pattern_numbers (pattern_and p ps) + numbers e) refl refl pl t known (subst (λ n. Elsewhere N types home lo n In) last E) w σ before m
+        (subst (λ n. Data_wanted types (Around N types home lo n) (pattern_and p ps) (1 + lo) w.size) last f) refl refl z);
+  }
+    where
+      last : lo + numbers (Lambda (pattern_and p ps) e) ≡ 1 + lo + all_pattern_numbers (pattern_and p ps) + numbers e
+      last = omega arith
 
   -- ---- loops
 
@@ -551,10 +704,20 @@ module _ (N : Names) (types : Sub) (home : ℕ → ℕ) (K : Kinds) (places : Ki
     term_part (Strict o mark ts) = strict_part o mark ts (term_parts ts)
     term_part (Lambda no_pattern e) = λ In Vars scope T lo st d p t known E q. absurd p
     term_part (Lambda (pattern_and x ps) e) = lambda_part x ps e (term_part e)
-    term_part (Apply f e) = apply_part N types home K places data_places f e (apply_spine N types home K places data_places f e (spine_part f) (term_part e))
+    term_part (Apply f e) = apply_part N types home K places data_places f e (apply_spine N types home K places data_places f e (spine_part f) (term_part e) (wide_part e))
     term_part (Let b v e) = any_let N types home K places data_places b.sizes b.parameters b.is_function b.pattern v e (term_part v) (headed_part v) (term_part e)
     term_part (If c a b) = if_part c a b (term_part c) (term_part a) (term_part b)
     term_part (Loop mark sizes x first turns body) = loop_part sizes mark x first turns body (term_part first) (turns_part turns) (term_part body)
+
+    wide_part : (v : FlatTerm) → Is_lambda v → Wide_law N types home K places v
+    wide_part (Lambda (pattern_and x ps) e) i = lambda_wide x ps e (term_part e)
+    wide_part (Lambda no_pattern e) i = absurd i
+    wide_part (Use r at k) i = absurd i
+    wide_part (Strict o mark ts) i = absurd i
+    wide_part (Apply f e) i = absurd i
+    wide_part (Let b v e) i = absurd i
+    wide_part (If c a b) i = absurd i
+    wide_part (Loop mark sizes x first turns body) i = absurd i
 
     pub headed_part : (v : FlatTerm) → Law_headed N types home K places data_places v
     headed_part (Lambda (pattern_and x ps) e) = lambda_headed x ps e (term_part e)
@@ -568,7 +731,7 @@ module _ (N : Names) (types : Sub) (home : ℕ → ℕ) (K : Kinds) (places : Ki
 
     spine_part : (f : FlatTerm) → Spine_law N types home K places data_places f
     spine_part (Use (ref.Bound b) at k) = use_spine N types home K places data_places b at k
-    spine_part (Apply f e) = apply_spine N types home K places data_places f e (spine_part f) (term_part e)
+    spine_part (Apply f e) = apply_spine N types home K places data_places f e (spine_part f) (term_part e) (wide_part e)
     spine_part (Use (ref.Prim x) at k) = primitive_spine N types home K places data_places x at k
     spine_part (Use (ref.Scalar x) at k) = λ lambda In Vars scope T lo st d p t known E q. absurd p
     spine_part (Strict o mark ts) = λ lambda In Vars scope T lo st d p t known E q. absurd p

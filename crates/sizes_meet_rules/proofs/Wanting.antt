@@ -84,12 +84,12 @@ module _ (N : Names) (types : Sub) (home : ℕ → ℕ) (K : Kinds) (places : Ki
   lambda_waits bs ps e lo scope w σ = and_then (ask (all_entered N types lo ps (1 + lo) (record { scope = scope; parameters = []; wanted = wanted_size w; found = σ }))) (λ E. lambda_goes bs ps e lo w E)
 
   module _ (bs : List ℕ) (ps : Patterns Ref BindId) (e : FlatTerm) (lo : ℕ) where
-    record Went (w : Want) (E : Entered) (st : State) (m : Done Met) : Type 0 where
-      alone : Done Met
-      ran : lambda_goes bs ps e lo None (with_wanted None nothing_found E) st ≡ Ok alone
-      size : alone.result.size ≡ m.result.size
-      state : alone.state ≡ m.state
-      met : meet w.node (function_way w.is_regular) lo none_opened w.size none_opened m.result.size E.found ≡ Ok m.result.found
+    pub record Went (w : Want) (E : Entered) (st : State) (m : Done Met) : Type 0 where
+      pub alone : Done Met
+      pub ran : lambda_goes bs ps e lo None (with_wanted None nothing_found E) st ≡ Ok alone
+      pub size : alone.result.size ≡ m.result.size
+      pub state : alone.state ≡ m.state
+      pub met : meet w.node (function_way w.is_regular) lo none_opened w.size none_opened m.result.size E.found ≡ Ok m.result.found
 
     -- what stands at the end, once the body is sized
     abbrev leaves_with : Option Want → Entered → Size → Step Met
@@ -118,7 +118,7 @@ module _ (N : Names) (types : Sub) (home : ℕ → ℕ) (K : Kinds) (places : Ki
           met = ap (λ y. meet w.node (function_way w.is_regular) lo none_opened w.size none_opened y E.found) (sym same) ∙ x9.done ∙ ap (λ (y : Met). Ok y.found) (same_ok x9.rest);
         }
 
-    went : (w : Want) (E : Entered) (st : State) (m : Done Met) → lambda_goes bs ps e lo (Some w) E st ≡ Ok m → Went w E st m
+    pub went : (w : Want) (E : Entered) (st : State) (m : Done Met) → lambda_goes bs ps e lo (Some w) E st ≡ Ok m → Went w E st m
     went w E st m q =
         let x2 = then_ok (ask (none_left N types (1 + lo + all_pattern_numbers ps) (unchosen bs E.parameters)) st) q in
         let x3 = then_ok (parameters_noted N types E.parameters x2.first.state) x2.rest in

@@ -1,6 +1,6 @@
 -- The terms of which the law speaks: names, operations, functions of data, lets of data and of functions, branches, loops and
 -- applications of names and primitives to arguments of data; a primitive is applied to all that it takes, and one of them may be a
--- function whose parameters have no arrays, and which gives data; where a name is applied to fewer, those that are left have none. Programs are of functions, numbers and other data without arrays. A node that binds a name is the home of that name.
+-- function whose parameters have no arrays, and which gives data, or the first of them a lambda that takes and gives data; where a name is applied to fewer, those that are left have none. Programs are of functions, numbers and other data whose sizes are told. A node that binds a name is the home of that name.
 use Rattle.std.specs.Prelude.{◌≡◌, ◌⊎◌, ℕ, ◌+◌, Bool, true, false, List, [], ◌∷◌, None}
 use Rattle.fut_scalar.specs.declared.place.BindId.{BindId}
 use Rattle.fut_scalar.specs.declared.scalar.ScalarType.{ScalarType}
@@ -9,7 +9,7 @@ use Rattle.fut_flat.specs.declared.prim.Primitive.TheVariants as prim
 use Rattle.fut_flat.specs.declared.prim.Ref.{Ref}
 use Rattle.fut_flat.specs.declared.prim.Ref.TheVariants as ref
 use Rattle.fut_flat.specs.Numbers.{pattern_numbers, all_pattern_numbers, own_numbers, numbers, turn_numbers}
-use Rattle.fut_flat.specs.Terms.{Size_parameter, Type_parameter, Type_use, Array_type, Unique_type, Arrow_type, Tuple_type, Record_type, Type_terms, no_arg, no_type, type_and, Coerce, Declared, Bound_pattern, Wild_pattern, Tuple_pattern, Record_pattern, Typed_pattern, Patterns, no_pattern, pattern_and, Parameter, Operation, Integer, Truth, Tuple_of, Record_of, Array_of, Binary, Negate, Complement, Index, Project, Update, Replace, Ascribe, Assert, Range, Use, Strict, Lambda, Apply, Let, If, Loop, Terms, no_term, term_and, Counted, Over, While}
+use Rattle.fut_flat.specs.Terms.{Size_use, Size_const, Size_parameter, Type_parameter, Type_use, Array_type, Unique_type, Arrow_type, Tuple_type, Record_type, Type_terms, no_arg, no_type, type_and, Coerce, Declared, Bound_pattern, Wild_pattern, Tuple_pattern, Record_pattern, Typed_pattern, Patterns, no_pattern, pattern_and, Parameter, Operation, Integer, Truth, Tuple_of, Record_of, Array_of, Binary, Negate, Complement, Index, Project, Update, Replace, Ascribe, Assert, Range, Use, Strict, Lambda, Apply, Let, If, Loop, Terms, no_term, term_and, Counted, Over, While}
 use Rattle.fut_flat.specs.Erased.{FlatTerm, FlatTurns, FlatPattern, FlatType}
 use Rattle.fut_types.specs.declared.Kind.{Kind}
 use Rattle.fut_types.specs.declared.Head.TheVariants as head
@@ -67,22 +67,30 @@ abbrev mutual
   All_written_data no_type = Unit {0}
   All_written_data (type_and e es) = Written_data e × All_written_data es
 
--- of scalars and tuples
+-- of scalars, arrays and tuples, with all of its sizes
 abbrev mutual
-  pub Written_flat : FlatType → Type 0
-  Written_flat (Type_use (ref.Scalar s) no_arg) = Unit {0}
-  Written_flat (Tuple_type es) = All_written_flat es
-  Written_flat e = ⊥
+  pub Written_whole : FlatType → Type 0
+  Written_whole (Type_use (ref.Scalar s) no_arg) = Unit {0}
+  Written_whole (Array_type (Size_use (ref.Bound b)) e) = Written_whole e
+  Written_whole (Array_type (Size_const c) e) = Written_whole e
+  Written_whole (Unique_type e) = Written_whole e
+  Written_whole (Tuple_type es) = All_written_whole es
+  Written_whole e = ⊥
 
-  pub All_written_flat : Type_terms Ref BindId → Type 0
-  All_written_flat no_type = Unit {0}
-  All_written_flat (type_and e es) = Written_flat e × All_written_flat es
+  pub All_written_whole : Type_terms Ref BindId → Type 0
+  All_written_whole no_type = Unit {0}
+  All_written_whole (type_and e es) = Written_whole e × All_written_whole es
 
 -- a definition's value, at a node, has one type in all uses: it is written, or that of truth values, or does not differ from use to use
 abbrev pub One_type : FlatTerm → ℕ → Type 0
-One_type (Strict (Declared e) mark ts) n = Written_flat e
+One_type (Strict (Declared e) mark ts) n = Written_whole e
 One_type (Strict (Truth b) mark ts) n = Unit {0}
 One_type v n = is_free false v n n ≡ false
+
+-- its type has no arrays, or is written with all sizes
+abbrev pub Sizes_told : FlatTerm → Ty → Type 0
+Sizes_told (Strict (Declared e) mark ts) t = Written_whole e
+Sizes_told v t = Flat_type t
 
 abbrev pub Is_scalar : Ty → Type 0
 Is_scalar t = (c : ScalarType) × (t ≡ scalar_ty c)
@@ -140,6 +148,10 @@ abbrev pub Is_call : FlatTerm → Type 0
 Is_call (Use (ref.Bound b) at k) = Unit {0}
 Is_call (Apply f e) = Is_call f
 Is_call e = ⊥
+
+abbrev pub Is_primitive : FlatTerm → Type 0
+Is_primitive (Use (ref.Prim p) at k) = Unit {0}
+Is_primitive e = ⊥
 
 -- size parameters alone
 abbrev pub Are_sizes : List (Parameter BindId) → Type 0
@@ -203,6 +215,11 @@ module _ (types : Sub) (home : ℕ → ℕ) (K : Kinds) (places : Kind) where
   Flat_function (Made head.Fun (more p (more r none))) = Flat_type p × (HasKind K places r ⊎ Flat_function r)
   Flat_function t = ⊥
 
+  -- a lambda whose body is data
+  abbrev pub Gives_data : FlatTerm → ℕ → Type 0
+  Gives_data (Lambda (pattern_and p ps) e) lo = HasKind K places (types (1 + lo + all_pattern_numbers (pattern_and p ps)))
+  Gives_data e lo = ⊥
+
   module _ (N : Names) where
     abbrev mutual
       pub Plain_term : FlatTerm → ℕ → Type 0
@@ -212,8 +229,8 @@ module _ (types : Sub) (home : ℕ → ℕ) (K : Kinds) (places : Kind) where
       Plain_term (Strict o mark ts) lo = Plain_operation N o (types lo) ts × Plain_terms ts (lo + own_numbers o)
       Plain_term (Lambda (pattern_and p ps) e) lo = Plain_patterns (pattern_and p ps) (1 + lo) × Plain_term e (1 + lo + all_pattern_numbers (pattern_and p ps))
       -- a function by its name, or a primitive, applied to arguments of data; a primitive may take one function of parameters without
-      -- arrays, which gives data. The result is data; a function by its name may have arguments left, in which are no arrays
-      Plain_term (Apply f e) lo = (HasKind K places (types lo) ⊎ (Flat_function (types lo) × Is_call f)) × (((HasKind K places (types (1 + lo + numbers f)) × Plain_spine false f (1 + lo)) ⊎ ((false ≡ false) × Flat_function (types (1 + lo + numbers f)) × Plain_spine true f (1 + lo))) × Plain_term e (1 + lo + numbers f))
+      -- arrays, which gives data, or as its first argument a lambda of data, which gives data. The result is data; a function by its name may have arguments left, in which are no arrays
+      Plain_term (Apply f e) lo = (HasKind K places (types lo) ⊎ (Flat_function (types lo) × Is_call f)) × (((HasKind K places (types (1 + lo + numbers f)) × Plain_spine false f (1 + lo)) ⊎ (((false ≡ false) × Flat_function (types (1 + lo + numbers f)) × Plain_spine true f (1 + lo)) ⊎ ((false ≡ false) × Gives_data e (1 + lo + numbers f) × Is_primitive f))) × Plain_term e (1 + lo + numbers f))
       Plain_term (Let b v e) lo = Plain_let N b.is_function b.sizes b.parameters b.pattern v (1 + lo) × (composition b e ≡ None)
           × (HasKind K places (types (1 + lo + pattern_numbers b.pattern)) ⊎ (Is_lambda v × Is_bound b.pattern)) × Plain_term v (1 + lo + pattern_numbers b.pattern) × Plain_term e (1 + lo + pattern_numbers b.pattern + numbers v)
       Plain_term (If c a b) lo = Plain_term c (1 + lo) × Plain_term a (1 + lo + numbers c) × Plain_term b (1 + lo + numbers c + numbers a)
@@ -225,7 +242,7 @@ module _ (types : Sub) (home : ℕ → ℕ) (K : Kinds) (places : Kind) where
       pub Plain_spine : Bool → FlatTerm → ℕ → Type 0
       Plain_spine lambda (Use (ref.Bound b) at k) lo = (lambda ≡ false) × (types lo ≡ types (home b.0))
       Plain_spine lambda (Use (ref.Prim p) at k) lo = Unit {0}
-      Plain_spine lambda (Apply f e) lo = ((HasKind K places (types (1 + lo + numbers f)) × Plain_spine lambda f (1 + lo)) ⊎ ((lambda ≡ false) × Flat_function (types (1 + lo + numbers f)) × Plain_spine true f (1 + lo))) × Plain_term e (1 + lo + numbers f)
+      Plain_spine lambda (Apply f e) lo = ((HasKind K places (types (1 + lo + numbers f)) × Plain_spine lambda f (1 + lo)) ⊎ (((lambda ≡ false) × Flat_function (types (1 + lo + numbers f)) × Plain_spine true f (1 + lo)) ⊎ ((lambda ≡ false) × Gives_data e (1 + lo + numbers f) × Is_primitive f))) × Plain_term e (1 + lo + numbers f)
       Plain_spine lambda e lo = ⊥
 
       pub Plain_terms : Terms Ref BindId → ℕ → Type 0
@@ -246,13 +263,13 @@ module _ (types : Sub) (home : ℕ → ℕ) (K : Kinds) (places : Kind) where
     Number_definition [] v lo = (types lo ≡ i64_ty) × Plain_term v (lo + 1)
     Number_definition ps v lo = ⊥
 
-    -- one of other data without arrays, which has one type in all uses
-    abbrev pub Flat_definition : List (Parameter BindId) → FlatTerm → ℕ → Type 0
-    Flat_definition [] v lo = Flat_type (types lo) × (types lo ≡ i64_ty → ⊥) × One_type v (lo + 1) × Plain_term v (lo + 1)
-    Flat_definition ps v lo = ⊥
+    -- one of other data, which has one type in all uses, in which are no sizes but those that are written
+    abbrev pub Data_definition : List (Parameter BindId) → FlatTerm → ℕ → Type 0
+    Data_definition [] v lo = (types lo ≡ i64_ty → ⊥) × One_type v (lo + 1) × Sizes_told v (types lo) × Plain_term v (lo + 1)
+    Data_definition ps v lo = ⊥
 
     abbrev pub Plain_definition : FlatPattern → List (Parameter BindId) → FlatTerm → ℕ → Type 0
-    Plain_definition (Bound_pattern b) ps v lo = (home b.0 ≡ lo) × (Function_definition ps v lo ⊎ (Number_definition ps v lo ⊎ Flat_definition ps v lo))
+    Plain_definition (Bound_pattern b) ps v lo = (home b.0 ≡ lo) × (Function_definition ps v lo ⊎ (Number_definition ps v lo ⊎ Data_definition ps v lo))
     Plain_definition p ps v lo = ⊥
 
     abbrev pub Plain_definitions : List Defined → ℕ → Type 0
