@@ -2,3 +2,4 @@ pub mod Answering
 pub mod Entering
 pub mod Joining
 pub mod Searching
+pub mod Gathering

@@ -1,16 +1,13 @@
--- When the tokens of a file are an accepted program, and why others are not. The prelude is file 0, the file itself file 1.
-use Rattle.std.specs.Prelude.{◌≡◌, ◌≤◌, ◌<◌, ℕ, List, [], ◌∷◌, map, None, Some, Result, Ok, Err, true}
+-- When the files of a program are accepted, and why others are not. The prelude is file 0, the named file is file 1, and the others
+-- stand behind it in load order.
+use Rattle.std.specs.Prelude.{◌≡◌, ◌≤◌, ◌<◌, ℕ, zero, suc, List, ◌∷◌, length, map, Result, Ok, Err}
+use Rattle.std.specs.List.{range_with_len}
 use Rattle.fut_scalar.specs.declared.place.Place.{Place}
 use Rattle.fut_token.specs.declared.token.Token.{Token}
 use Rattle.fut_lexer.specs.Lexing.{HasTokens}
-use Rattle.fut_ast.specs.Grammar.{Derives}
-use Rattle.fut_ast.specs.LeftOut.{begins_left_out}
+use Rattle.fut_io.specs.Outside.{LoaderSeen}
 use Rattle.fut_ast.specs.Sorts.{Text}
-use Rattle.fut_ast.specs.Nesting.{Too_deep}
 use Rattle.fut_ast.specs.declared.module.Program.{Program}
-use Rattle.fut_parser.specs.Places.{Ends, place_of}
-use Rattle.fut_parser.specs.declared.programs.ParseErr.{ParseErr}
-use Rattle.fut_parser.specs.declared.programs.ParseErr.TheVariants as parse
 use Rattle.fut_flat.specs.Erased.{texts}
 use Rattle.fut_flat.specs.Terms.{Bound_pattern}
 use Rattle.fut_flat.specs.declared.program.Flat.{Flat}
@@ -23,10 +20,12 @@ use Rattle.elab_scopes.specs.Names.{Refusal}
 use Rattle.elab_scopes.specs.Names as refusal
 use Rattle.elab_scopes.specs.Programs.{FlatDefinition, FlatProgram}
 use Rattle.elab_scopes.specs.Elaboration.{Elaborates}
-use Rattle.elab_scopes.specs.Imports.{Source_file}
+use Rattle.elab_scopes.specs.Imports.{Source_file, item, path_of}
+use Rattle.file_order.specs.Order.{First_cycle, Leads}
+use Rattle.source_files.specs.Files.{Are_read, Spells, Stops}
+use Rattle.source_files.specs.declared.reading.Unread.TheVariants as unread
 use Rattle.module_elab.specs.Elaborated.{program_of as flat_of}
 use Rattle.module_elab.specs.declared.prelude.TheConstants.{PRELUDE, PRELUDE_PATH}
-use Rattle.unbuilt_tokens.specs.Unbuilt.{first_unbuilt}
 use Rattle.typed_programs.specs.Mistyped.{Some_numbering}
 use Rattle.typed_programs.specs.Ordered.{Some_order}
 use Rattle.sized_types.specs.Sizes.{Size}
@@ -38,46 +37,18 @@ use Rattle.unique_programs.specs.Rules.{Breaks_none}
 use Rattle.unique_programs.specs.Misuses.{Misused}
 use Rattle.unique_programs.specs.declared.misuse.Misuse.{Misuse}
 use Rattle.unique_programs.specs.declared.misuse.Misuse.TheVariants as misuse
+use Rattle.front.specs.declared.refusals.NameErr.{NameErr}
 use Rattle.front.specs.declared.refusals.NameErr.TheVariants as names
+use Rattle.typed_programs.specs.declared.typed.TypeErr.{TypeErr}
 use Rattle.typed_programs.specs.declared.typed.TypeErr.TheVariants as types
 use Rattle.front.specs.declared.refusals.Refused.{Refused}
 use Rattle.front.specs.declared.refusals.Refused.TheVariants as why
-
--- ---- the grammar
 
 abbrev pub prelude_file : ℕ
 prelude_file = 0
 
 abbrev pub named_file : ℕ
 named_file = 1
-
--- the tokens spell this program and no other, nested at most 200 deep
-pub record IsParsed (tokens : List Token) (program : Program) : Type 0 where
-  pub height : ℕ
-  pub spelled : Derives tokens program height
-  pub flat : height ≤ 201
-  pub only : (other : Program) (h : ℕ) → Derives tokens other h → other ≡ program
-
--- this is the place of one of the tokens, or of the last one, and of the tokens from there on this holds
-abbrev pub StandsAt : List Token → Place → (List Token → Type 0) → Type 0
-StandsAt tokens place Holds = (rest : List Token) × Ends tokens rest × (place ≡ place_of named_file tokens rest) × Holds rest
-
--- the tokens are no program
-pub record IsNoProgram (tokens : List Token) (place : Place) (Holds : List Token → Type 0) : Type 0 where
-  pub none : (program : Program) (h : ℕ) → Derives tokens program h → ⊥
-  pub stands : StandsAt tokens place Holds
-
--- the nodes of the tokens are nested too deep
-pub record IsTooDeep (tokens : List Token) (place : Place) : Type 0 where
-  pub deep : (program : Program) (h : ℕ) → Derives tokens program h → 201 < h
-  pub stands : StandsAt tokens place (Too_deep tokens)
-
--- why the tokens spell no program that is nested at most 200 deep
-abbrev pub Unspelled : List Token → ParseErr → Type 0
-Unspelled tokens (parse.Syntax place) = IsNoProgram tokens place (λ rest. Unit {0})
-Unspelled tokens (parse.LeftOut place what) = IsNoProgram tokens place (λ rest. begins_left_out what rest ≡ true)
-Unspelled tokens (parse.TooDeep place) = IsTooDeep tokens place
-Unspelled tokens parse.Memory = ⊥
 
 -- ---- names
 
@@ -88,19 +59,26 @@ IsPreludeText tokens = HasTokens prelude_file PRELUDE.now tokens
 pub record IsPrelude (prelude : Program) : Type 0 where
   pub tokens : List Token
   pub lexed : IsPreludeText tokens
-  pub parsed : IsParsed tokens prelude
+  pub parsed : Spells tokens prelude
 
 abbrev pub prelude_of : Program → Source_file
 prelude_of p = record { path = PRELUDE_PATH.now; program = p }
 
--- a file that imports no other
-abbrev pub file_alone : Text → Program → List Source_file
-file_alone path program = record { path = path; program = program } ∷ []
+-- the path of the file of a number, behind the prelude
+unfoldable pub path_of_file : List Source_file → ℕ → Text
+path_of_file files zero = PRELUDE_PATH.now
+path_of_file files (suc k) = path_of (item files k)
 
--- behind the prelude these files come to this: the flat program of what they declare, or the first refusal of names
+-- no file behind the prelude imports itself, perhaps through others
+abbrev pub Acyclic : List Source_file → Type 0
+Acyclic all = (k : ℕ) → 1 ≤ k → k < length all → Leads all k k → ⊥
+
+-- Behind the prelude these files, of which none imports itself, come to this: the flat program of what they declare, or the first
+-- refusal of names.
 pub record Resolves (files : List Source_file) (answer : Result FlatProgram Refusal) : Type 0 where
   pub prelude : Program
   pub is_prelude : IsPrelude prelude
+  pub acyclic : Acyclic (prelude_of prelude ∷ files)
   pub resolved : Elaborates (prelude_of prelude ∷ files) answer
 
 -- ---- types
@@ -122,73 +100,134 @@ Sizable N ds = (sizes : ℕ → Size) × Is_sized ds (Ok sizes) N
 
 -- ---- what is accepted
 
--- the tokens spell this program, in which no token of a form stands that is not built
-pub record IsBuiltProgram (tokens : List Token) (program : Program) : Type 0 where
-  pub parsed : IsParsed tokens program
-  pub built : first_unbuilt tokens ≡ None
+-- the files of the program that begins with this one come to this
+pub record IsResolved (seen : LoaderSeen) (file : Text) (answer : Result FlatProgram Refusal) : Type 0 where
+  pub files : List Source_file
+  pub read : Are_read seen file files
+  pub resolves : Resolves files answer
 
--- and the file of this path, with this program, comes to this
-pub record IsResolved (path : Text) (tokens : List Token) (answer : Result FlatProgram Refusal) : Type 0 where
-  pub program : Program
-  pub spelled : IsBuiltProgram tokens program
-  pub resolves : Resolves (file_alone path program) answer
-
--- The tokens of the file of this path are accepted: behind the prelude they are this flat program, and names and records can be numbered so that it
--- has a typing, and in the order of names so that by one it has a sizing and by one it breaks no rule of aliases and consumption.
-pub record IsAcceptable (path : Text) (tokens : List Token) (flat : FlatProgram) : Type 0 where
-  pub resolved : IsResolved path tokens (Ok flat)
+-- The program that begins with the file at this path is accepted: behind the prelude its files are this flat program, and names and
+-- records can be numbered so that it has a typing, and in the order of names so that by one it has a sizing and by one it breaks no
+-- rule of aliases and consumption.
+pub record IsAcceptable (seen : LoaderSeen) (file : Text) (flat : FlatProgram) : Type 0 where
+  pub resolved : IsResolved seen file (Ok flat)
   pub typed : Some_numbering (λ N. Typable N (definitions_of flat))
   pub sized : Some_order (λ N. Sizable N (definitions_of flat))
   pub unbroken : Some_order (Breaks_none (definitions_of flat))
 
+-- ---- where a refusal stands
+
+abbrev pub nowhere : Place
+nowhere = record { file = 0; line = 1; column = 1 }
+
+abbrev pub names_place : NameErr → Place
+names_place (names.Unbound name at) = at
+names_place (names.Twice name at) = at
+names_place (names.NoMember name at) = at
+names_place (names.SealMissing name at) = at
+names_place (names.TooManyApplications at) = at
+
+abbrev pub types_place : TypeErr → Place
+types_place (types.NoType at) = at
+types_place (types.FunctionPlace at) = at
+types_place (types.Ambiguous at) = at
+types_place types.Memory = nowhere
+
+abbrev pub misfit_place : Misfit → Place
+misfit_place (misfit.SizesDiffer left right at) = at
+misfit_place (misfit.Escapes at) = at
+misfit_place (misfit.Irregular at) = at
+misfit_place misfit.Memory = nowhere
+
+abbrev pub misuse_place : Misuse → Place
+misuse_place (misuse.Consumed name at used) = used
+misuse_place (misuse.NotConsumable name at) = at
+misuse_place (misuse.Captured name at) = at
+misuse_place (misuse.ResultAliases name at) = at
+misuse_place misuse.Memory = nowhere
+
+-- the number of the file in which a refusal behind reading stands
+abbrev pub refused_at : Refused → ℕ
+refused_at (why.Names err) = (names_place err).file
+refused_at (why.Types err) = (types_place err).file
+refused_at (why.Misfit err) = (misfit_place err).file
+refused_at (why.Misused err) = (misuse_place err).file
+refused_at (why.Unread err) = 0
+refused_at why.ImportCycle = 0
+refused_at why.Memory = 0
+
 -- ---- what is not accepted, and why
 
 -- their flat program has no typing to go on with
-pub record IsUntyped (path : Text) (tokens : List Token) (Lacks : Names → List Defined → Type 0) : Type 0 where
+pub record IsUntyped (files : List Source_file) (Lacks : Names → List Defined → Type 0) : Type 0 where
   pub flat : FlatProgram
-  pub resolved : IsResolved path tokens (Ok flat)
+  pub resolves : Resolves files (Ok flat)
   pub lacks : Some_numbering (λ N. Lacks N (definitions_of flat))
-
--- it is a program, in which at this place a token of a form stands that is not built, and none before
-pub record IsUnbuilt (tokens : List Token) (at : Place) : Type 0 where
-  pub program : Program
-  pub parsed : IsParsed tokens program
-  pub unbuilt : first_unbuilt tokens ≡ Some at
 
 -- Their flat program has a typing by which it has no sizing, for the first reason as the refusal tells it: with the sizes and the
 -- places of its nodes as they stand in a tree of the program.
-pub record IsMisfit (path : Text) (tokens : List Token) (refusal : Misfit) : Type 0 where
+pub record IsMisfit (files : List Source_file) (refusal : Misfit) : Type 0 where
   pub flat : Flat
-  pub resolved : IsResolved path tokens (Ok (flat_of flat))
+  pub resolves : Resolves files (Ok (flat_of flat))
   pub misfits : Misfits (typing_of flat) (texts flat.names.now) (program_places flat.definitions.now) refusal
 
 -- Their flat program has a sizing, and a typing by which it breaks a rule of aliases and consumption, the first of them as the
 -- refusal tells it: with its names, and the places of its nodes as they stand in a tree of the program.
-pub record IsMisused (path : Text) (tokens : List Token) (refusal : Misuse) : Type 0 where
+pub record IsMisused (files : List Source_file) (refusal : Misuse) : Type 0 where
   pub flat : Flat
-  pub resolved : IsResolved path tokens (Ok (flat_of flat))
+  pub resolves : Resolves files (Ok (flat_of flat))
   pub sized : Some_order (λ N. Sizable N (typing_of flat))
   pub breaks : Misused (typing_of flat) (texts flat.names.now) (program_places flat.definitions.now) refusal
 
--- why the tokens are not accepted. Want of memory says nothing of them.
-abbrev pub Unaccepted : Text → List Token → Refused → Type 0
-Unaccepted path tokens (why.Parse err) = Unspelled tokens err
-Unaccepted path tokens (why.NotBuilt at) = IsUnbuilt tokens at
-Unaccepted path tokens (why.Names (names.Unbound name at)) = IsResolved path tokens (Err (refusal.Unbound name at))
-Unaccepted path tokens (why.Names (names.Twice name at)) = IsResolved path tokens (Err (refusal.Twice name at))
-Unaccepted path tokens (why.Names (names.NoMember name at)) = IsResolved path tokens (Err (refusal.NoMember name at))
-Unaccepted path tokens (why.Types (types.NoType at)) = IsUntyped path tokens NoType
-Unaccepted path tokens (why.Types (types.FunctionPlace at)) = IsUntyped path tokens FunctionPlace
-Unaccepted path tokens (why.Types (types.Ambiguous at)) = IsUntyped path tokens Ambiguous
-Unaccepted path tokens (why.Types types.Memory) = ⊥
-Unaccepted path tokens (why.Misfit misfit.Memory) = ⊥
-Unaccepted path tokens (why.Misfit err) = IsMisfit path tokens err
-Unaccepted path tokens (why.Misused misuse.Memory) = ⊥
-Unaccepted path tokens (why.Misused err) = IsMisused path tokens err
-Unaccepted path tokens why.Memory = ⊥
+-- why these files are not accepted. Want of memory says nothing of them.
+abbrev pub Unacceptable : List Source_file → Refused → Type 0
+Unacceptable files (why.Unread err) = ⊥
+Unacceptable files why.ImportCycle = ⊥
+Unacceptable files (why.Names (names.Unbound name at)) = Resolves files (Err (refusal.Unbound name at))
+Unacceptable files (why.Names (names.Twice name at)) = Resolves files (Err (refusal.Twice name at))
+Unacceptable files (why.Names (names.NoMember name at)) = Resolves files (Err (refusal.NoMember name at))
+Unacceptable files (why.Names (names.SealMissing name at)) = Resolves files (Err (refusal.SealMissing name at))
+Unacceptable files (why.Names (names.TooManyApplications at)) = Resolves files (Err (refusal.TooManyApplications at))
+Unacceptable files (why.Types (types.NoType at)) = IsUntyped files NoType
+Unacceptable files (why.Types (types.FunctionPlace at)) = IsUntyped files FunctionPlace
+Unacceptable files (why.Types (types.Ambiguous at)) = IsUntyped files Ambiguous
+Unacceptable files (why.Types types.Memory) = ⊥
+Unacceptable files (why.Misfit misfit.Memory) = ⊥
+Unacceptable files (why.Misfit err) = IsMisfit files err
+Unacceptable files (why.Misused misuse.Memory) = ⊥
+Unacceptable files (why.Misused err) = IsMisused files err
+Unacceptable files why.Memory = ⊥
 
--- the refusal is one of sizes, or of aliases and consumption
+-- all files are read, which are not accepted; the path is that of the file in which the refusal stands
+pub record IsRefused (file : Text) (old new : LoaderSeen) (path : Text) (reason : Refused) : Type 0 where
+  pub files : List Source_file
+  pub read : Are_read old file files
+  pub same : new ≡ old
+  pub path_is : path ≡ path_of_file files (refused_at reason)
+  pub because : Unacceptable files reason
+
+-- all files are read, and the one at this path is the first in load order that imports itself
+pub record IsCyclic (file : Text) (old new : LoaderSeen) (path : Text) : Type 0 where
+  pub files : List Source_file
+  pub read : Are_read old file files
+  pub same : new ≡ old
+  pub prelude : Program
+  pub is_prelude : IsPrelude prelude
+  pub number : ℕ
+  pub cycle : First_cycle (prelude_of prelude ∷ files) number (range_with_len 1 (length files))
+  pub path_is : path ≡ path_of_file files number
+
+-- why the program that begins with this file is not accepted, and the path of the file in which that stands
+abbrev pub Unaccepted : Text → LoaderSeen → LoaderSeen → Text → Refused → Type 0
+Unaccepted file old new path (why.Unread unread.Memory) = ⊥
+Unaccepted file old new path (why.Unread err) = Stops file old new path err
+Unaccepted file old new path why.ImportCycle = IsCyclic file old new path
+Unaccepted file old new path why.Memory = ⊥
+Unaccepted file old new path reason = IsRefused file old new path reason
+
+-- The refusal is one of sizes, or of aliases and consumption, or a load failed: what is accepted may have none of another kind.
 abbrev pub IsBehindTypes : Refused → Type 0
 IsBehindTypes (why.Misfit err) = Unit {0}
 IsBehindTypes (why.Misused err) = Unit {0}
+IsBehindTypes (why.Unread unread.Load) = Unit {0}
 IsBehindTypes refused = ⊥

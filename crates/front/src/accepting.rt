@@ -1,80 +1,29 @@
-// From tokens to an accepted program.
-ghost use Rattle.std.specs.Prelude.{◌≡◌, ◌∷◌, List, IfOk, IfErr, Ok, OnOk};
+// From files to an accepted program.
+ghost use Rattle.std.specs.Prelude.{◌≡◌, List, IfOk, IfErr, Ok, OnOk};
 ghost use Rattle.elab_scopes.specs.Elaboration.{Elaborates};
 ghost use Rattle.elab_scopes.specs.Imports.{Source_file};
 ghost use Rattle.module_state.specs.Written.{files_of};
 ghost use Rattle.fut_typing.specs.Program.{program_of as typing_of};
 ghost use Rattle.module_elab.specs.Elaborated.{program_of as flat_of, Tells};
-ghost use Rattle.front.specs.Acceptance.{IsParsed, IsPreludeText, Resolves, file_alone, prelude_of};
 ghost use Rattle.sized_programs.specs.Sizings.{Has_sizing};
 ghost use Rattle.type_infer.specs.Inferring.{Told_by};
 ghost use Rattle.typed_programs.specs.Known.{Is_known, Knows};
 ghost use Rattle.typed_programs.specs.Ordered.{Some_order};
 ghost use Rattle.unique_programs.specs.Rules.{Breaks_none};
-ghost use Rattle.front.specs.Stages.{Explains, Is_accepted, IsMisnamed, Misnames, Misspells, Overwrites, Unsized, Untyped};
+ghost use Rattle.front.specs.Stages.{Faults, Misnames, Overwrites, Takes, Unsized, Untyped};
 
-use crate::reading::{Prelude, prelude_tree};
 use crate::refusals::{NameErr, Refused};
 use bumpalo::Bump;
 use fut_flat::Flat;
-use fut_parser::{ParseErr, parse};
 use fut_scalar::{Name, NoMemory};
-use fut_token::Token;
-use fut_tree::Program;
-use module_elab::{ModErr, PRELUDE_PATH, elaborate};
+use module_elab::{ModErr, elaborate};
 use module_state::SourceFile;
 use sized_programs::{Misfit, SizedProgram, Sizing, sized_program};
 use std::alloc::Global;
 use typed_programs::{Accepted, TypeErr, typed_program};
-use unbuilt_tokens::first_unbuilt;
 use unique_programs::{Misuse, unique_program};
 
-/// The number of the named file: the first in load order.
-const NAMED_FILE: u32 = 1;
-
-/// The program that the tokens of the file spell.
-fn parsed<'a>(bump: &'a Bump, tokens: &'a [Token]) -> Result<Program<'a>, ParseErr>
-    ensures ok { IfOk result (IsParsed tokens.now) }
-    ensures err { IfErr result (Misspells tokens.now) }
-{
-    parse(bump, NAMED_FILE, tokens)
-}
-
-/// A tree, held by the arena.
-fn held<'a>(bump: &'a Bump, program: Program<'a>) -> Result<&'a Program<'a>, NoMemory>
-    ensures { IfOk result (λ held. held.now ≡ program.entry) }
-{
-    match bump.try_alloc(program) {
-        Ok(at) => Ok(at),
-        Err(_failed) => Err(NoMemory),
-    }
-}
-
-/// The prelude and a file, in load order.
-fn source_files<'a>(
-    bump: &'a Bump,
-    prelude: Program<'a>,
-    path: &'a str,
-    program: Program<'a>,
-) -> Result<&'a [SourceFile<'a>], NoMemory>
-    ensures { IfOk result (λ files. files_of files.now ≡ prelude_of prelude.entry ∷ file_alone path.now program.entry) }
-{
-    let prelude = SourceFile {
-        path: PRELUDE_PATH,
-        program: held(bump, prelude)?,
-    };
-    let file = SourceFile {
-        path,
-        program: held(bump, program)?,
-    };
-    match bump.try_alloc_slice_copy(&[prelude, file]) {
-        Ok(files) => Ok(files),
-        Err(_) => Err(NoMemory),
-    }
-}
-
-/// A refusal of names, which owns its name. One of a form that is not built, which tokens tell before, is want of memory, and
-/// so are those of modules, which files without modules do not have.
+/// A refusal of names, which owns its name. One of a form that is not built, which tokens tell before, is want of memory.
 fn misnamed(alloc: Global, err: ModErr<'_>) -> Refused
     ensures { (files : List Source_file) → Tells (Elaborates files) err.entry → Misnames (Elaborates files) result }
 {
@@ -91,31 +40,25 @@ fn misnamed(alloc: Global, err: ModErr<'_>) -> Refused
             Ok(name) => Refused::Names(NameErr::NoMember { name, at }),
             Err(_) => Refused::Memory,
         },
-        ModErr::SealMissing { name: _, at: _ } => Refused::Memory,
-        ModErr::TooManyApplications { at: _ } => Refused::Memory,
+        ModErr::SealMissing { name, at } => match Name::new(alloc, name) {
+            Ok(name) => Refused::Names(NameErr::SealMissing { name, at }),
+            Err(_) => Refused::Memory,
+        },
+        ModErr::TooManyApplications { at } => Refused::Names(NameErr::TooManyApplications { at }),
         ModErr::NotYet { at: _ } => Refused::Memory,
         ModErr::Memory => Refused::Memory,
     }
 }
 
-/// The flat program of the prelude and a file.
+/// The flat program of files, the prelude first.
 fn resolved<'a>(
     alloc: Global,
     bump: &'a Bump,
-    prelude: &'a Prelude,
-    path: &'a str,
-    program: Program<'a>,
+    files: &'a [SourceFile<'a>],
 ) -> Result<Flat<'a>, Refused>
-    requires prelude { IsPreludeText prelude.now.tokens }
-    ensures ok { IfOk result (λ flat. Resolves (file_alone path.now program.entry) (Ok (flat_of flat))) }
-    ensures err { IfErr result (IsMisnamed path.now program.entry) }
+    ensures ok { IfOk result (λ flat. Elaborates (files_of files.now) (Ok (flat_of flat))) }
+    ensures err { IfErr result (Misnames (Elaborates (files_of files.now))) }
 {
-    let Ok(prelude) = prelude_tree(bump, prelude) else {
-        return Err(Refused::Memory);
-    };
-    let Ok(files) = source_files(bump, prelude, path, program) else {
-        return Err(Refused::Memory);
-    };
     match elaborate(alloc, bump, files) {
         Ok(flat) => Ok(flat),
         Err(err) => Err(misnamed(alloc, err)),
@@ -191,30 +134,17 @@ fn unbroken<'a>(alloc: Global, bump: &'a Bump, accepted: &'a Accepted<'a>) -> Re
     }
 }
 
-/// The program that the tokens of the file of this path spell behind the prelude, or why it is not accepted. It lies in the arena with its trees.
-///
-/// The cost is linear in the tokens, but for what types, sizes and the sets of aliases cost.
+/// The program of files, the prelude first, of which none imports itself; or why it is not accepted.
 #[tactic(auto, using(crate::proofs::Joining::joining))]
-pub fn accept<'a>(
+pub fn accept_files<'a>(
     alloc: Global,
     bump: &'a Bump,
-    prelude: &'a Prelude,
-    path: &'a str,
-    tokens: &'a [Token],
+    files: &'a [SourceFile<'a>],
 ) -> Result<SizedProgram<'a>, Refused>
-    requires prelude { IsPreludeText prelude.now.tokens }
-    ensures accepted { IfOk result (λ program. Is_accepted path.now tokens.now program.accepted.now program.sizing.now) }
-    ensures refused { IfErr result (Explains path.now tokens.now) }
+    ensures accepted { IfOk result (λ program. Takes (files_of files.now) program.accepted.now program.sizing.now) }
+    ensures refused { IfErr result (Faults (files_of files.now)) }
 {
-    let program = match parsed(bump, tokens) {
-        Ok(program) => program,
-        Err(ParseErr::Memory) => return Err(Refused::Memory),
-        Err(err) => return Err(Refused::Parse(err)),
-    };
-    if let Some(at) = first_unbuilt(tokens) {
-        return Err(Refused::NotBuilt { at });
-    }
-    let flat = match resolved(alloc, bump, prelude, path, program) {
+    let flat = match resolved(alloc, bump, files) {
         Ok(flat) => flat,
         Err(refused) => return Err(refused),
     };

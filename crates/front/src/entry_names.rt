@@ -25,7 +25,7 @@ fn begins(flat: &Flat<'_>, definition: &Definition<'_>, name: &str) -> bool
     definition.is_entry && definition.file == NAMED_FILE && is_named(flat, definition.bind, name)
 }
 
-/// The first definition at which a run may begin under this name. A file defines a name once, so there is one at most.
+/// The first definition at which a run may begin under this name. A file defines a name once, but for definitions with `local`.
 pub fn entry_at(flat: &Flat<'_>, name: &str) -> Option<usize>
     ensures within { IfSome result (λ at. at < length flat.now.definitions.now) }
     ensures found { IfSome result (Begins_at flat.now name.now) }

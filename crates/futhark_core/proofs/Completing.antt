@@ -1,26 +1,30 @@
 -- A row of a run in which no fault rose agrees with all that the run comes to.
-use Rattle.std.proofs.Common.{◌≡◌, ◌≤◌, ◌<◌, ℕ, List, length, map, true, refl, sym, ap, subst, ◌∙◌, arith, inl, inr, ◌⊎◌}
+use Rattle.std.proofs.Common.{◌≡◌, ◌≤◌, ◌<◌, ℕ, List, ◌∷◌, length, map, true, refl, sym, ap, subst, ◌∙◌, arith, inl, inr, ◌⊎◌}
 use Rattle.std.specs.Prelude.{Option, None, Some, IfSome, Result, Ok, Err}
 use Rattle.fut_value.specs.Values.{datum_of}
 use Rattle.fut_value.specs.declared.value.Value.{Value}
 use Rattle.fut_meaning.specs.Answers.{Answer, Gives, Fails}
-use Rattle.fut_token.specs.declared.token.Token.{Token}
-use Rattle.fut_io.specs.Outside.{Loaded}
+use Rattle.std.specs.List.{range_with_len}
+use Rattle.fut_scalar.specs.declared.place.Place.{Place}
 use Rattle.fut_lexer.specs.declared.lexer.LexErr.{LexErr}
-use Rattle.fut_lexer.specs.declared.lexer.LexErr.TheVariants as lex
-use Rattle.fut_ast.specs.Grammar.{Derives}
 use Rattle.fut_ast.specs.declared.module.Program.{Program}
 use Rattle.fut_parser.specs.declared.programs.ParseErr.{ParseErr}
 use Rattle.fut_parser.specs.declared.programs.ParseErr.TheVariants as parse
 use Rattle.elab_scopes.specs.Names.{Refusal}
 use Rattle.elab_scopes.specs.Programs.{FlatProgram}
 use Rattle.elab_scopes.specs.Elaboration.{Elaborates}
+use Rattle.elab_scopes.specs.Imports.{Source_file}
+use Rattle.file_order.specs.Order.{First_cycle}
+use Rattle.source_files.specs.Claims.{Is_outside}
+use Rattle.source_files.specs.Files.{Are_read, Stops}
+use Rattle.source_files.specs.declared.reading.Unread.{Unread}
+use Rattle.source_files.specs.declared.reading.Unread.TheVariants as unread
 use Rattle.module_elab.specs.Elaborated.{program_of as flat_of}
 use Rattle.typed_programs.specs.declared.typed.TypeErr.{TypeErr}
 use Rattle.typed_programs.specs.declared.typed.TypeErr.TheVariants as types
 use Rattle.sized_programs.specs.declared.misfit.Misfit.{Misfit}
 use Rattle.unique_programs.specs.declared.misuse.Misuse.{Misuse}
-use Rattle.front.specs.Acceptance.{IsResolved, IsUntyped, Unaccepted, Unspelled}
+use Rattle.front.specs.Acceptance.{IsPrelude, IsUntyped, Resolves, Unacceptable, path_of_file, prelude_of}
 use Rattle.front.specs.Entries.{HasEntry, HasNoEntry}
 use Rattle.front.specs.declared.refusals.NameErr.{NameErr}
 use Rattle.front.specs.declared.refusals.NameErr.TheVariants as names
@@ -39,17 +43,18 @@ use Rattle.futhark_status.specs.declared.status.Why.{Why}
 use Rattle.futhark_status.specs.declared.status.Why.TheVariants as why
 use Rattle.futhark_status.specs.declared.status.Status.{Status}
 use Rattle.futhark_status.specs.declared.status.Status.TheVariants.{Done, Usage, LoadFault, Text, Names, Types, Sizes, Unique, Entry, Limit, ReadFault, Input, Failure, Turns, WriteFault, Memory}
-use Rattle.futhark_core.specs.Acceptance.{Source, AcceptedFile, Unlexed, UnacceptedTokens, LexedUnaccepted}
+use Rattle.futhark_core.specs.Acceptance.{Source, AcceptedFile}
 use Rattle.futhark_core.specs.Entering.{NotEntered}
 use Rattle.entry_sizes.proofs.Wanting.{are_wanted}
 use Rattle.typed_programs.specs.EntryTypes.{number_of}
 use Rattle.futhark_core.specs.Meaning.{Entered, IsEntered, Allows, Lawfully_allows, Alone, Answers}
 use Rattle.futhark_core.specs.Row.{Outside, Streams, RunRow, TextRow, NamesRow, TypesRow, SizesRow, UniqueRow, LoadRow, FrontRow, Started, InputRow, ActionRow, ProgramRow, CheckRow, status_for}
-use Rattle.futhark_core.specs.Comes.{Accepted, Acted, Agrees, AskedRun, Done_with, Argued, Built, Comes, Commanded, Complete, Came, Ending, Entering, FileHeld, IsLimit, Lacks, Named, NoFault, Onward, Parsed, ParserRefusal, Ran, Sized, Stage, Tells, Then, Told, Tokenized, Typed, Unbroken, Unread, refusal_of}
+use Rattle.futhark_core.specs.Comes.{Accepted, Acted, Agrees, AskedRun, Done_with, Argued, Comes, Commanded, Complete, Came, Ending, Entering, FilesRead, IsLimit, Lacks, Named, NoFault, Onward, ParserRefusal, Ran, Sized, Stage, Tells, Then, Told, Typed, Unbroken, Uncycled, Unread as Unread_input, names_status, refusal_of, sizes_status, types_status, unique_status}
 use Rattle.futhark_core.proofs.Misfitting.{misfits, typable as misfit_typable}
 use Rattle.futhark_core.proofs.Misusing.{breaks, typable}
 use Rattle.futhark_core.proofs.Reading.{types_of_reading}
-use Rattle.futhark_core.proofs.Settling.{EndsAs, Holds, Settles, SizesRefusal, TypesRefusal, UniqueRefusal, built_err, built_ok, commanded_err, commanded_ok, held_err, held_ok, named_err, named_ok, parsed_none, parsed_ok, sized_err, sized_ok, then_ends, then_err, then_ok, tokenized_err, tokenized_ok, typed_err, typed_ok, unbroken_err, unbroken_ok}
+use Rattle.futhark_core.proofs.Settling.{EndsAs, Holds, Settles, SizesRefusal, TypesRefusal, UniqueRefusal, commanded_err, commanded_ok, named_err, named_ok, sized_err, sized_ok, then_ends, then_err, then_ok, typed_err, typed_ok, unbroken_err, unbroken_ok}
+use Rattle.futhark_core.proofs.Filing.{Ends_so, moved, read_ok, read_stops, uncycled_err, uncycled_ok}
 
 -- ---- entries
 
@@ -88,7 +93,7 @@ module _ (source : Source) (name : List ℕ) (turns : ℕ) (resolved : Elaborate
         let some = answers (map datum_of read.0) (types_of_reading e.params e.wanted (are_wanted e.params (is.typed.sizes (number_of source.flat is.at)) e.wanted is.wants) left read.0 read.1) in
         ran_as left asked p.0 status some.0 read.0 read.1 some.1 some.2 (inr past)
     past_limit status past answers (Some left) (Ok (Came outcome)) p = inr past
-    past_limit status past answers (Some left) (Ok (Unread st)) p = inr past
+    past_limit status past answers (Some left) (Ok (Unread_input st)) p = inr past
     past_limit status past answers (Some left) (Err st) p = absurd p
 
     -- the input is too long
@@ -97,8 +102,8 @@ module _ (source : Source) (name : List ℕ) (turns : ℕ) (resolved : Elaborate
     too_long (Some left) long (Ok Told) p = absurd p
     too_long (Some left) long (Ok (Ran asked)) p = let few = p.1 in absurd (omega arith)
     too_long (Some left) long (Ok (Came outcome)) p = let few = p.0 in absurd (omega arith)
-    too_long (Some left) long (Ok (Unread st)) (inl p) = inl (sym p.1)
-    too_long (Some left) long (Ok (Unread st)) (inr p) = let few = p.1 in absurd (omega arith)
+    too_long (Some left) long (Ok (Unread_input st)) (inl p) = inl (sym p.1)
+    too_long (Some left) long (Ok (Unread_input st)) (inr p) = let few = p.1 in absurd (omega arith)
     too_long (Some left) long (Err st) p = absurd p
 
     -- the input is refused
@@ -109,8 +114,8 @@ module _ (source : Source) (name : List ℕ) (turns : ℕ) (resolved : Elaborate
         let own = rw all at refuses in let reads = p.2 source refl e is in let other = reads.1 in absurd cc
     refused_input err bytes (Some left) all short refuses (Ok (Came outcome)) p =
         let own = rw all at refuses in let reads = p.1 source refl resolved e is in let other = reads.1 in absurd cc
-    refused_input err bytes (Some left) all short refuses (Ok (Unread st)) (inl p) = let l = ap length all in let many = p.0 in absurd (omega arith)
-    refused_input err bytes (Some left) all short refuses (Ok (Unread st)) (inr p) =
+    refused_input err bytes (Some left) all short refuses (Ok (Unread_input st)) (inl p) = let l = ap length all in let many = p.0 in absurd (omega arith)
+    refused_input err bytes (Some left) all short refuses (Ok (Unread_input st)) (inr p) =
         let own = rw all at refuses in let other = p.2 source refl e is in let same : p.0 ≡ err = cc in inl (ap Input (sym same) ∙ sym p.3)
     refused_input err bytes (Some left) all short refuses (Err st) p = absurd p
 
@@ -126,8 +131,8 @@ module _ (source : Source) (name : List ℕ) (turns : ℕ) (resolved : Elaborate
         let same_reading = read.1 in
         let same : read.0 ≡ values = cc in
         inl (subst (λ z. Tells z status) (sym (alone other (subst (λ z. Lawfully_allows source e turns (map datum_of z) other) same read.2))) tells)
-    ran_to status outcome tells bytes values words allows alone (Some left) all short reads (Ok (Unread st)) (inl p) = let l = ap length all in let many = p.0 in absurd (omega arith)
-    ran_to status outcome tells bytes values words allows alone (Some left) all short reads (Ok (Unread st)) (inr p) =
+    ran_to status outcome tells bytes values words allows alone (Some left) all short reads (Ok (Unread_input st)) (inl p) = let l = ap length all in let many = p.0 in absurd (omega arith)
+    ran_to status outcome tells bytes values words allows alone (Some left) all short reads (Ok (Unread_input st)) (inr p) =
         let own = rw all at reads in let other = p.2 source refl e is in absurd cc
     ran_to status outcome tells bytes values words allows alone (Some left) all short reads (Err st) p = absurd p
 
@@ -146,18 +151,20 @@ module _ (source : Source) (name : List ℕ) (turns : ℕ) (resolved : Elaborate
       go (Err st) (inl p) on = absurd (none_or_one outside.at p.0 (has_entry source.flat name outside.at outside.begins))
       go (Err st) (inr p) on = subst (Agrees (Entry OutsideProfile name)) (sym on) (inl (sym p.2))
 
--- ---- why tokens are not accepted
+-- ---- why files are not accepted
 
-unnamed : (path : List ℕ) (tokens : List Token) (err : NameErr) → Unaccepted path tokens (refused.Names err) → IsResolved path tokens (Err (refusal_of err))
-unnamed path tokens (names.Unbound name at) u = u
-unnamed path tokens (names.Twice name at) u = u
-unnamed path tokens (names.NoMember name at) u = u
+unnamed : (sources : List Source_file) (err : NameErr) → Unacceptable sources (refused.Names err) → Resolves sources (Err (refusal_of err))
+unnamed sources (names.Unbound name at) u = u
+unnamed sources (names.Twice name at) u = u
+unnamed sources (names.NoMember name at) u = u
+unnamed sources (names.SealMissing name at) u = u
+unnamed sources (names.TooManyApplications at) u = u
 
-untyped_so : (path : List ℕ) (tokens : List Token) (err : TypeErr) → Unaccepted path tokens (refused.Types err) → IsUntyped path tokens (Lacks err)
-untyped_so path tokens (types.NoType at) u = u
-untyped_so path tokens (types.FunctionPlace at) u = u
-untyped_so path tokens (types.Ambiguous at) u = u
-untyped_so path tokens types.Memory u = absurd u
+untyped_so : (sources : List Source_file) (err : TypeErr) → Unacceptable sources (refused.Types err) → IsUntyped sources (Lacks err)
+untyped_so sources (types.NoType at) u = u
+untyped_so sources (types.FunctionPlace at) u = u
+untyped_so sources (types.Ambiguous at) u = u
+untyped_so sources types.Memory u = absurd u
 
 module _ (words : List (List ℕ)) (old new : Outside) (quiet : NoFault old new) where
   abbrev files : Option (List (List ℕ × List ℕ))
@@ -180,164 +187,167 @@ module _ (words : List (List ℕ)) (old new : Outside) (quiet : NoFault old new)
     refused_with status settles a comes = subst (Agrees status)
         (sym (onward (λ end. end ≡ Err status) (then_err (Accepted files asked.file) _ status settles) a comes)) (inl refl)
 
-    -- the parser refuses the source
-    unspelled : (err : ParseErr) → Holds (Accepted files asked.file) (EndsAs (ParserRefusal asked.file)) → Ends (status_for (why.Parse err) asked.file)
-    unspelled err ends a comes = go a (onward (EndsAs (ParserRefusal asked.file)) (then_ends (Accepted files asked.file) _ (ParserRefusal asked.file) ends) a comes)
+    -- a file is refused by the parser
+    unspelled : (err : ParseErr) (path : List ℕ) → Holds (Accepted files asked.file) (EndsAs (ParserRefusal path)) → Ends (status_for (why.Parse err) path)
+    unspelled err path ends a comes = go a (onward (EndsAs (ParserRefusal path)) (then_ends (Accepted files asked.file) _ (ParserRefusal path) ends) a comes)
       where
-        go : (a : Result Ending Status) → EndsAs (ParserRefusal asked.file) a → Agrees (status_for (why.Parse err) asked.file) a
+        go : (a : Result Ending Status) → EndsAs (ParserRefusal path) a → Agrees (status_for (why.Parse err) path) a
         go (Ok end) p = absurd p
-        go (Err status) p = inr (inl (asked.file, (err, refl), p))
+        go (Err status) p = inr (inl (path, (err, refl), p))
 
-    -- its types are refused
-    untyped : (err : TypeErr) → Holds (Accepted files asked.file) (EndsAs (TypesRefusal asked.file err)) → Ends (status_for (why.Types err) asked.file)
-    untyped err ends a comes = go a (onward (EndsAs (TypesRefusal asked.file err)) (then_ends (Accepted files asked.file) _ (TypesRefusal asked.file err) ends) a comes)
+    module _ (sources : List Source_file) where
+      -- its types are refused
+      untyped : (err : TypeErr) → Holds (Accepted files asked.file) (EndsAs (TypesRefusal sources err)) → Ends (types_status sources err)
+      untyped err ends a comes = go a (onward (EndsAs (TypesRefusal sources err)) (then_ends (Accepted files asked.file) _ (TypesRefusal sources err) ends) a comes)
+        where
+          go : (a : Result Ending Status) → EndsAs (TypesRefusal sources err) a → Agrees (types_status sources err) a
+          go (Ok end) p = absurd p
+          go (Err status) p = inr (inr (inl (sources, err, p.0, p.1, refl, p.2)))
+
+      -- it has no sizing
+      misfitting : (err : Misfit) → Holds (Accepted files asked.file) (EndsAs (SizesRefusal sources)) → Ends (sizes_status sources err)
+      misfitting err ends a comes = go a (onward (EndsAs (SizesRefusal sources)) (then_ends (Accepted files asked.file) _ (SizesRefusal sources) ends) a comes)
+        where
+          go : (a : Result Ending Status) → EndsAs (SizesRefusal sources) a → Agrees (sizes_status sources err) a
+          go (Ok end) p = absurd p
+          go (Err status) p = inr (inr (inr (inl (sources, err, p.0, refl, p.1))))
+
+      -- a rule of aliases and consumption is broken
+      overwrites : (err : Misuse) → Holds (Accepted files asked.file) (EndsAs (UniqueRefusal sources)) → Ends (unique_status sources err)
+      overwrites err ends a comes = go a (onward (EndsAs (UniqueRefusal sources)) (then_ends (Accepted files asked.file) _ (UniqueRefusal sources) ends) a comes)
+        where
+          go : (a : Result Ending Status) → EndsAs (UniqueRefusal sources) a → Agrees (unique_status sources err) a
+          go (Ok end) p = absurd p
+          go (Err status) p = inr (inr (inr (inr (sources, err, p.0, refl, p.1))))
+
+    -- ---- the files, where they are told
+
+    -- untold files come to nothing
+    untold : (o : Option (List (List ℕ × List ℕ))) → files ≡ o → (P : Result FlatProgram Status → Type 0) → ((told : List (List ℕ × List ℕ)) → o ≡ Some told → Holds (Accepted (Some told) asked.file) P) → Holds (Accepted files asked.file) P
+    untold o is P h = subst (λ fs. Holds (Accepted fs asked.file) P) (sym is) (by o h)
       where
-        go : (a : Result Ending Status) → EndsAs (TypesRefusal asked.file err) a → Agrees (status_for (why.Types err) asked.file) a
-        go (Ok end) p = absurd p
-        go (Err status) p = inr (inr (inl (asked.file, err, p.0, p.1, refl, p.2)))
+        by : (o : Option (List (List ℕ × List ℕ))) → ((told : List (List ℕ × List ℕ)) → o ≡ Some told → Holds (Accepted (Some told) asked.file) P) → Holds (Accepted o asked.file) P
+        by None h a run = absurd run.1
+        by (Some told) h a run = h told refl a run
 
-    -- it has no sizing
-    misfitting : (err : Misfit) → Holds (Accepted files asked.file) (EndsAs (SizesRefusal asked.file)) → Ends (status_for (why.Sizes err) asked.file)
-    misfitting err ends a comes = go a (onward (EndsAs (SizesRefusal asked.file)) (then_ends (Accepted files asked.file) _ (SizesRefusal asked.file) ends) a comes)
+    -- reading ends, as the row says
+    reading : (Q : Status → Type 0) (path : List ℕ) (reason : Unread) → Stops asked.file old.loader new.loader path reason → (Is_outside reason → ⊥) → ((status : Status) → Ends_so reason path status → Q status) → Holds (Accepted files asked.file) (EndsAs Q)
+    reading Q path reason s inside to = untold files refl (EndsAs Q) (λ told is. then_ends (FilesRead (Some told) asked.file) _ Q (weaker (read_stops told old.loader new.loader is asked.file path reason s inside)))
       where
-        go : (a : Result Ending Status) → EndsAs (SizesRefusal asked.file) a → Agrees (status_for (why.Sizes err) asked.file) a
-        go (Ok end) p = absurd p
-        go (Err status) p = inr (inr (inr (inl (asked.file, err, p.0, refl, p.1))))
+        weaker : {A : Type 0} {stage : Stage A} → Holds stage (EndsAs (Ends_so reason path)) → Holds stage (EndsAs Q)
+        weaker h (Ok a) p = h (Ok a) p
+        weaker h (Err status) p = to status (h (Err status) p)
 
-    -- a rule of aliases and consumption is broken
-    overwrites : (err : Misuse) → Holds (Accepted files asked.file) (EndsAs (UniqueRefusal asked.file)) → Ends (status_for (why.Unique err) asked.file)
-    overwrites err ends a comes = go a (onward (EndsAs (UniqueRefusal asked.file)) (then_ends (Accepted files asked.file) _ (UniqueRefusal asked.file) ends) a comes)
+    -- it ends with this status alone
+    reading_with : (status : Status) (path : List ℕ) (reason : Unread) → Stops asked.file old.loader new.loader path reason → (Is_outside reason → ⊥) → ((other : Status) → Ends_so reason path other → other ≡ status) → Ends status
+    reading_with status path reason s inside to a comes = by a (onward (EndsAs (λ other. other ≡ status)) (then_ends (Accepted files asked.file) _ (λ other. other ≡ status) (reading (λ other. other ≡ status) path reason s inside to)) a comes)
       where
-        go : (a : Result Ending Status) → EndsAs (UniqueRefusal asked.file) a → Agrees (status_for (why.Unique err) asked.file) a
-        go (Ok end) p = absurd p
-        go (Err status) p = inr (inr (inr (inr (asked.file, err, p.0, refl, p.1))))
+        by : (a : Result Ending Status) → EndsAs (λ other. other ≡ status) a → Agrees status a
+        by (Ok end) p = absurd p
+        by (Err other) p = inl (sym p)
 
-    file_too_long : Settles (FileHeld files asked.file) (Err (Limit limit.FileBytes)) → Ends (Limit limit.FileBytes)
-    file_too_long settles = refused_with (Limit limit.FileBytes) (then_err (FileHeld files asked.file) _ (Limit limit.FileBytes) settles)
+    -- ---- behind the files
 
-    module _ (body : List ℕ) (loaded : Loaded old.loader new.loader asked.file body) where
-      abbrev held : Settles (FileHeld files asked.file) (Ok body)
-      held = held_ok files asked.file body loaded.file loaded.short
+    module _ (sources : List Source_file) (read : Are_read old.loader asked.file sources) where
+      -- what comes behind the names
+      abbrev Typed_apart : FlatProgram → Stage FlatProgram
+      Typed_apart flat = Then (Typed sources flat) (λ typed. Then (Sized sources typed) (λ sized. Unbroken sources sized))
 
-      text_refused : (status : Status) → Settles (Tokenized asked.file body) (Err status) → Ends status
-      text_refused status settles = refused_with status (then_ok (FileHeld files asked.file) _ (λ end. end ≡ Err status) body held (then_err (Tokenized asked.file body) _ status settles))
+      -- of what the files come to this holds, so of the program
+      from_files : (P : Result FlatProgram Status → Type 0) → Holds (Then (Uncycled sources) (λ same. Then (Named same) (λ flat. Then (Typed same flat) (λ typed. Then (Sized same typed) (λ sized. Unbroken same sized))))) P → Holds (Accepted files asked.file) P
+      from_files P h = untold files refl P (λ told is. then_ok (FilesRead (Some told) asked.file) _ P sources (read_ok told asked.file sources (moved told old.loader is asked.file sources read)) h)
 
-      lexed : (err : LexErr) → Unlexed body err → Ends (status_for (why.Lex err) asked.file)
-      lexed lex.Memory h = absurd h
-      lexed (lex.NotUtf8 place) h = text_refused (status_for (why.Lex (lex.NotUtf8 place)) asked.file) (tokenized_err asked.file body (lex.NotUtf8 place) h)
-      lexed (lex.BadToken place) h = text_refused (status_for (why.Lex (lex.BadToken place)) asked.file) (tokenized_err asked.file body (lex.BadToken place) h)
-      lexed (lex.Float place) h = text_refused (status_for (why.Lex (lex.Float place)) asked.file) (tokenized_err asked.file body (lex.Float place) h)
+      -- of what their names come to
+      from_names : (answer : Result FlatProgram Refusal) → Resolves sources answer → (P : Result FlatProgram Status → Type 0) → Holds (Then (Named sources) Typed_apart) P → Holds (Accepted files asked.file) P
+      from_names answer r P h = from_files P (then_ok (Uncycled sources) _ P sources (uncycled_ok sources r.prelude r.is_prelude r.acyclic) h)
 
-      module _ (tokens : List Token) (spelled : Settles (Tokenized asked.file body) (Ok tokens)) where
-        -- what comes behind the names
-        abbrev Typed_apart : FlatProgram → Stage FlatProgram
-        Typed_apart flat = Then (Typed asked.file flat) (λ typed. Then (Sized asked.file typed) (λ sized. Unbroken asked.file sized))
+      named_so : (err : NameErr) → Unacceptable sources (refused.Names err) → Ends (names_status sources err)
+      named_so err u =
+          let r = unnamed sources err u in
+          let status = names_status sources err in
+          refused_with status (from_names (Err (refusal_of err)) r (λ end. end ≡ Err status) (then_err (Named sources) _ status (named_err sources err r)))
 
-        -- of what the tokens come to this holds, so of the file
-        from_tokens : (P : Result FlatProgram Status → Type 0)
-            → Holds (Then (Parsed asked.file tokens) (λ parsed. Then (Built asked.file tokens parsed) (λ built. Then (Named asked.file built) Typed_apart))) P
-            → Holds (Accepted files asked.file) P
-        from_tokens P h = then_ok (FileHeld files asked.file) _ P body held (then_ok (Tokenized asked.file body) _ P tokens spelled h)
+      typed_so : (err : TypeErr) → Unacceptable sources (refused.Types err) → Ends (types_status sources err)
+      typed_so err u =
+          let t = untyped_so sources err u in
+          untyped sources err (from_names (Ok t.flat) t.resolves (EndsAs (TypesRefusal sources err))
+          (then_ok (Named sources) _ (EndsAs (TypesRefusal sources err)) t.flat (named_ok sources t.flat t.resolves)
+          (then_ends (Typed sources t.flat) _ (TypesRefusal sources err) (typed_err sources t.flat err t.lacks))))
 
-        tree_refused : (err : ParseErr) → ((program : Program) (h : ℕ) → h ≤ 201 → Derives tokens program h → ⊥) → Ends (status_for (why.Parse err) asked.file)
-        tree_refused err none = unspelled err (from_tokens (EndsAs (ParserRefusal asked.file)) (then_ends (Parsed asked.file tokens) _ (ParserRefusal asked.file) (parsed_none asked.file tokens none)))
+      sizes_so : (err : Misfit) → Unacceptable sources (refused.Misfit err) → Ends (sizes_status sources err)
+      sizes_so err u =
+          let m = misfits sources err u in
+          misfitting sources err (from_names (Ok m.flat) m.resolves (EndsAs (SizesRefusal sources))
+          (then_ok (Named sources) _ (EndsAs (SizesRefusal sources)) m.flat (named_ok sources m.flat m.resolves)
+          (then_ok (Typed sources m.flat) _ (EndsAs (SizesRefusal sources)) m.flat (typed_ok sources m.flat (misfit_typable m.flat m.N m.are m.refusal m.first))
+          (then_ends (Sized sources m.flat) _ (SizesRefusal sources) (sized_err sources m.flat m.N m.are m.order m.refusal m.first)))))
 
-        parsed : (err : ParseErr) → Unspelled tokens err → Ends (status_for (why.Parse err) asked.file)
-        parsed (parse.Syntax place) h = tree_refused (parse.Syntax place) (λ program k le is. h.none program k is)
-        parsed (parse.LeftOut place what) h = tree_refused (parse.LeftOut place what) (λ program k le is. h.none program k is)
-        parsed (parse.TooDeep place) h = tree_refused (parse.TooDeep place) (λ program k le is. let deep = h.deep program k is in omega arith)
-        parsed parse.Memory h = absurd h
+      unique_so : (err : Misuse) → Unacceptable sources (refused.Misused err) → Ends (unique_status sources err)
+      unique_so err u =
+          let b = breaks sources err u in
+          overwrites sources err (from_names (Ok b.flat) b.resolves (EndsAs (UniqueRefusal sources))
+          (then_ok (Named sources) _ (EndsAs (UniqueRefusal sources)) b.flat (named_ok sources b.flat b.resolves)
+          (then_ok (Typed sources b.flat) _ (EndsAs (UniqueRefusal sources)) b.flat (typed_ok sources b.flat (typable b.flat b.N b.are b.rule b.first))
+          (then_ok (Sized sources b.flat) _ (EndsAs (UniqueRefusal sources)) b.flat (sized_ok sources b.flat b.sized)
+          (unbroken_err sources b.flat b.N b.are b.order b.rule b.first)))))
 
-        not_built : (place : _) → Unaccepted asked.file tokens (refused.NotBuilt place) → Ends (status_for (why.NotBuilt place) asked.file)
-        not_built place u =
-            let status = status_for (why.NotBuilt place) asked.file in
-            refused_with status (from_tokens (λ end. end ≡ Err status)
-            (then_ok (Parsed asked.file tokens) _ (λ end. end ≡ Err status) u.program (parsed_ok asked.file tokens u.program u.parsed)
-            (then_err (Built asked.file tokens u.program) _ status (built_err asked.file tokens u.program place u.unbuilt))))
+      cycled : (prelude : Program) → IsPrelude prelude → (number : ℕ) → First_cycle (prelude_of prelude ∷ sources) number (range_with_len 1 (length sources)) → Ends (status_for why.ImportCycle (path_of_file sources number))
+      cycled prelude is number cycle =
+          let status = status_for why.ImportCycle (path_of_file sources number) in
+          refused_with status (from_files (λ end. end ≡ Err status) (then_err (Uncycled sources) _ status (uncycled_err sources prelude is number cycle)))
 
-        -- of what its names come to this holds, so of the file
-        from_names : (answer : Result FlatProgram Refusal) (r : IsResolved asked.file tokens answer) (P : Result FlatProgram Status → Type 0)
-            → Holds (Then (Named asked.file r.program) Typed_apart) P → Holds (Accepted files asked.file) P
-        from_names answer r P h = from_tokens P
-            (then_ok (Parsed asked.file tokens) _ P r.program (parsed_ok asked.file tokens r.program r.spelled.parsed)
-            (then_ok (Built asked.file tokens r.program) _ P r.program (built_ok asked.file tokens r.program r.spelled.built) h))
-
-        named_so : (err : NameErr) → Unaccepted asked.file tokens (refused.Names err) → Ends (status_for (why.Names err) asked.file)
-        named_so err u =
-            let r = unnamed asked.file tokens err u in
-            let status = status_for (why.Names err) asked.file in
-            refused_with status (from_names (Err (refusal_of err)) r (λ end. end ≡ Err status)
-            (then_err (Named asked.file r.program) _ status (named_err asked.file r.program err r.resolves)))
-
-        typed_so : (err : TypeErr) → Unaccepted asked.file tokens (refused.Types err) → Ends (status_for (why.Types err) asked.file)
-        typed_so err u =
-            let t = untyped_so asked.file tokens err u in
-            untyped err (from_names (Ok t.flat) t.resolved (EndsAs (TypesRefusal asked.file err))
-            (then_ok (Named asked.file t.resolved.program) _ (EndsAs (TypesRefusal asked.file err)) t.flat (named_ok asked.file t.resolved.program t.flat t.resolved.resolves)
-            (then_ends (Typed asked.file t.flat) _ (TypesRefusal asked.file err) (typed_err asked.file t.flat err t.lacks))))
-
-        sizes_so : (err : Misfit) → Unaccepted asked.file tokens (refused.Misfit err) → Ends (status_for (why.Sizes err) asked.file)
-        sizes_so err u =
-            let m = misfits asked.file tokens err u in
-            misfitting err (from_names (Ok m.flat) m.resolved (EndsAs (SizesRefusal asked.file))
-            (then_ok (Named asked.file m.resolved.program) _ (EndsAs (SizesRefusal asked.file)) m.flat (named_ok asked.file m.resolved.program m.flat m.resolved.resolves)
-            (then_ok (Typed asked.file m.flat) _ (EndsAs (SizesRefusal asked.file)) m.flat (typed_ok asked.file m.flat (misfit_typable m.flat m.N m.are m.refusal m.first))
-            (then_ends (Sized asked.file m.flat) _ (SizesRefusal asked.file) (sized_err asked.file m.flat m.N m.are m.order m.refusal m.first)))))
-
-        unique_so : (err : Misuse) → Unaccepted asked.file tokens (refused.Misused err) → Ends (status_for (why.Unique err) asked.file)
-        unique_so err u =
-            let b = breaks asked.file tokens err u in
-            overwrites err (from_names (Ok b.flat) b.resolved (EndsAs (UniqueRefusal asked.file))
-            (then_ok (Named asked.file b.resolved.program) _ (EndsAs (UniqueRefusal asked.file)) b.flat (named_ok asked.file b.resolved.program b.flat b.resolved.resolves)
-            (then_ok (Typed asked.file b.flat) _ (EndsAs (UniqueRefusal asked.file)) b.flat (typed_ok asked.file b.flat (typable b.flat b.N b.are b.rule b.first))
-            (then_ok (Sized asked.file b.flat) _ (EndsAs (UniqueRefusal asked.file)) b.flat (sized_ok asked.file b.flat b.sized)
-            (unbroken_err asked.file b.flat b.N b.are b.order b.rule b.first)))))
-
-        explained : (reason : Why) → UnacceptedTokens asked.file tokens reason → Ends (status_for reason asked.file)
-        explained (why.Parse err) u = parsed err u
-        explained (why.NotBuilt place) u = not_built place u
-        explained (why.Names err) u = named_so err u
-        explained (why.Types err) u = typed_so err u
-        explained (why.Sizes err) u = sizes_so err u
-        explained (why.Unique err) u = unique_so err u
-        explained why.Load u = absurd u
-        explained (why.Lex err) u = absurd u
-        explained why.FileBytes u = absurd u
-        explained why.Memory u = absurd u
-
-      of_tokens : (reason : Why) → LexedUnaccepted asked.file body reason → Ends (status_for reason asked.file)
-      of_tokens reason u = explained u.tokens (tokenized_ok asked.file body u.tokens u.lexed) reason u.unaccepted
-
-  -- a row of the front, whose path is that of the command
-  of_path : (asked : Command) (path : List ℕ) (reason : Why) → path ≡ asked.file → Ends (status_for reason asked.file) → Ends (status_for reason path)
-  of_path asked path reason is ends = subst (λ p. Ends (status_for reason p)) (sym is) ends
+  -- ---- rows of the front
 
   front_lex : (err : LexErr) (path : List ℕ) → FrontRow (why.Lex err) words old new path → Ends (status_for (why.Lex err) path)
-  front_lex err path row =
-      let u = rw row.path_is at row.unaccepted in
-      of_path row.asked path (why.Lex err) row.path_is (lexed row.asked row.command u.text u.loaded err u.unaccepted)
+  front_lex err path row = reading_with row.asked row.command (status_for (why.Lex err) path) path (unread.Lex err) row.unaccepted outside (λ other e. e)
+    where
+      outside : Is_outside (unread.Lex err) → ⊥
+      outside (inl e) = absurd (let z : unread.Lex err ≡ unread.Load = e in cc)
+      outside (inr e) = absurd (let z : unread.Lex err ≡ unread.Memory = e in cc)
 
   front_parse : (err : ParseErr) (path : List ℕ) → FrontRow (why.Parse err) words old new path → Ends (status_for (why.Parse err) path)
-  front_parse err path row =
-      let u = rw row.path_is at row.unaccepted in
-      of_path row.asked path (why.Parse err) row.path_is (of_tokens row.asked row.command u.text u.loaded (why.Parse err) u.unaccepted)
+  front_parse err path row = unspelled row.asked row.command err path (reading row.asked row.command (ParserRefusal path) path (unread.Parse err) row.unaccepted outside (λ other e. e))
+    where
+      outside : Is_outside (unread.Parse err) → ⊥
+      outside (inl e) = absurd (let z : unread.Parse err ≡ unread.Load = e in cc)
+      outside (inr e) = absurd (let z : unread.Parse err ≡ unread.Memory = e in cc)
+
+  front_built : (place : Place) (path : List ℕ) → FrontRow (why.NotBuilt place) words old new path → Ends (status_for (why.NotBuilt place) path)
+  front_built place path row = reading_with row.asked row.command (status_for (why.NotBuilt place) path) path (unread.NotBuilt place) row.unaccepted outside (λ other e. e)
+    where
+      outside : Is_outside (unread.NotBuilt place) → ⊥
+      outside (inl e) = absurd (let z : unread.NotBuilt place ≡ unread.Load = e in cc)
+      outside (inr e) = absurd (let z : unread.NotBuilt place ≡ unread.Memory = e in cc)
+
+  front_long : (path : List ℕ) → FrontRow why.FileBytes words old new path → Ends (Limit limit.FileBytes)
+  front_long path row = reading_with row.asked row.command (Limit limit.FileBytes) path unread.TooLong row.unaccepted outside (λ other e. e)
+    where
+      outside : Is_outside unread.TooLong → ⊥
+      outside (inl e) = absurd (let z : unread.TooLong ≡ unread.Load = e in cc)
+      outside (inr e) = absurd (let z : unread.TooLong ≡ unread.Memory = e in cc)
+
+  front_many : (path : List ℕ) → FrontRow why.Files words old new path → Ends (Limit limit.Files)
+  front_many path row = reading_with row.asked row.command (Limit limit.Files) path unread.TooMany row.unaccepted outside (λ other e. e)
+    where
+      outside : Is_outside unread.TooMany → ⊥
+      outside (inl e) = absurd (let z : unread.TooMany ≡ unread.Load = e in cc)
+      outside (inr e) = absurd (let z : unread.TooMany ≡ unread.Memory = e in cc)
+
+  front_cycle : (path : List ℕ) → FrontRow why.ImportCycle words old new path → Ends (status_for why.ImportCycle path)
+  front_cycle path row = let c = row.unaccepted in
+      subst (λ p. Ends (status_for why.ImportCycle p)) (sym c.path_is) (cycled row.asked row.command c.files c.read c.prelude c.is_prelude c.number c.cycle)
 
   -- ---- an accepted source
 
   module _ (asked : Command) (source : Source) (command : command_of words ≡ Ok asked) (a : AcceptedFile asked.file old.loader new.loader source) where
     accepted : Settles (Accepted files asked.file) (Ok (flat_of source.flat))
     accepted =
-        let t = a.accepted in let p = t.accepted.acceptable in
-        from_names asked command a.text a.loaded t.tokens (tokenized_ok asked.file a.text t.tokens t.lexed) (Ok (flat_of source.flat)) p.resolved (λ end. end ≡ Ok (flat_of source.flat))
-        (then_ok (Named asked.file p.resolved.program) _ (λ end. end ≡ Ok (flat_of source.flat)) (flat_of source.flat) (named_ok asked.file p.resolved.program (flat_of source.flat) p.resolved.resolves)
-        (then_ok (Typed asked.file (flat_of source.flat)) _ (λ end. end ≡ Ok (flat_of source.flat)) (flat_of source.flat) (typed_ok asked.file (flat_of source.flat) p.typed)
-        (then_ok (Sized asked.file (flat_of source.flat)) _ (λ end. end ≡ Ok (flat_of source.flat)) (flat_of source.flat) (sized_ok asked.file (flat_of source.flat) p.sized)
-        (unbroken_ok asked.file (flat_of source.flat) p.unbroken))))
-
-  front_built : (place : _) (path : List ℕ) → FrontRow (why.NotBuilt place) words old new path → Ends (status_for (why.NotBuilt place) path)
-  front_built place path row =
-      let u = rw row.path_is at row.unaccepted in
-      of_path row.asked path (why.NotBuilt place) row.path_is (of_tokens row.asked row.command u.text u.loaded (why.NotBuilt place) u.unaccepted)
+        let p = a.acceptable in let fs = p.resolved.files in
+        from_names asked command fs p.resolved.read (Ok (flat_of source.flat)) p.resolved.resolves (λ end. end ≡ Ok (flat_of source.flat))
+        (then_ok (Named fs) _ (λ end. end ≡ Ok (flat_of source.flat)) (flat_of source.flat) (named_ok fs (flat_of source.flat) p.resolved.resolves)
+        (then_ok (Typed fs (flat_of source.flat)) _ (λ end. end ≡ Ok (flat_of source.flat)) (flat_of source.flat) (typed_ok fs (flat_of source.flat) p.typed)
+        (then_ok (Sized fs (flat_of source.flat)) _ (λ end. end ≡ Ok (flat_of source.flat)) (flat_of source.flat) (sized_ok fs (flat_of source.flat) p.sized)
+        (unbroken_ok fs (flat_of source.flat) p.unbroken))))
 
   refused_text : (reason : Why) (path : List ℕ) → TextRow reason words old new path → Ends (Text (record { why = reason; path = path }))
   refused_text (why.Lex err) path row = front_lex err path row
@@ -352,12 +362,20 @@ module _ (words : List (List ℕ)) (old new : Outside) (quiet : NoFault old new)
   refused_text (why.Unique err) path row = absurd row
   refused_text why.Load path row = absurd row
   refused_text why.FileBytes path row = absurd row
+  refused_text why.Files path row = absurd row
+  refused_text why.ImportCycle path row = absurd row
   refused_text why.Memory path row = absurd row
 
+  front_names : (err : NameErr) (path : List ℕ) → FrontRow (why.Names err) words old new path → Ends (status_for (why.Names err) path)
+  front_names err path row = let u = row.unaccepted in
+      subst (λ p. Ends (status_for (why.Names err) p)) (sym u.path_is) (named_so row.asked row.command u.files u.read err u.because)
+
   refused_names : (reason : Why) (path : List ℕ) → NamesRow reason words old new path → Ends (Names (record { why = reason; path = path }))
-  refused_names (why.Names err) path row =
-      let u = rw row.path_is at row.unaccepted in
-      of_path row.asked path (why.Names err) row.path_is (of_tokens row.asked row.command u.text u.loaded (why.Names err) u.unaccepted)
+  refused_names (why.Names (names.Unbound name place)) path row = front_names (names.Unbound name place) path row
+  refused_names (why.Names (names.Twice name place)) path row = front_names (names.Twice name place) path row
+  refused_names (why.Names (names.NoMember name place)) path row = front_names (names.NoMember name place) path row
+  refused_names (why.Names (names.SealMissing name place)) path row = front_names (names.SealMissing name place) path row
+  refused_names (why.Names (names.TooManyApplications place)) path row = absurd row
   refused_names (why.Lex err) path row = absurd row
   refused_names (why.Parse err) path row = absurd row
   refused_names (why.NotBuilt place) path row = absurd row
@@ -366,12 +384,13 @@ module _ (words : List (List ℕ)) (old new : Outside) (quiet : NoFault old new)
   refused_names (why.Unique err) path row = absurd row
   refused_names why.Load path row = absurd row
   refused_names why.FileBytes path row = absurd row
+  refused_names why.Files path row = absurd row
+  refused_names why.ImportCycle path row = front_cycle path row
   refused_names why.Memory path row = absurd row
 
   refused_types : (reason : Why) (path : List ℕ) → TypesRow reason words old new path → Ends (Types (record { why = reason; path = path }))
-  refused_types (why.Types err) path row =
-      let u = rw row.path_is at row.unaccepted in
-      of_path row.asked path (why.Types err) row.path_is (of_tokens row.asked row.command u.text u.loaded (why.Types err) u.unaccepted)
+  refused_types (why.Types err) path row = let u = row.unaccepted in
+      subst (λ p. Ends (status_for (why.Types err) p)) (sym u.path_is) (typed_so row.asked row.command u.files u.read err u.because)
   refused_types (why.Lex err) path row = absurd row
   refused_types (why.Parse err) path row = absurd row
   refused_types (why.NotBuilt place) path row = absurd row
@@ -380,12 +399,13 @@ module _ (words : List (List ℕ)) (old new : Outside) (quiet : NoFault old new)
   refused_types (why.Unique err) path row = absurd row
   refused_types why.Load path row = absurd row
   refused_types why.FileBytes path row = absurd row
+  refused_types why.Files path row = absurd row
+  refused_types why.ImportCycle path row = absurd row
   refused_types why.Memory path row = absurd row
 
   refused_sizes : (reason : Why) (path : List ℕ) → SizesRow reason words old new path → Ends (Sizes (record { why = reason; path = path }))
-  refused_sizes (why.Sizes err) path row =
-      let u = rw row.path_is at row.unaccepted in
-      of_path row.asked path (why.Sizes err) row.path_is (of_tokens row.asked row.command u.text u.loaded (why.Sizes err) u.unaccepted)
+  refused_sizes (why.Sizes err) path row = let u = row.unaccepted in
+      subst (λ p. Ends (status_for (why.Sizes err) p)) (sym u.path_is) (sizes_so row.asked row.command u.files u.read err u.because)
   refused_sizes (why.Lex err) path row = absurd row
   refused_sizes (why.Parse err) path row = absurd row
   refused_sizes (why.NotBuilt place) path row = absurd row
@@ -394,12 +414,13 @@ module _ (words : List (List ℕ)) (old new : Outside) (quiet : NoFault old new)
   refused_sizes (why.Unique err) path row = absurd row
   refused_sizes why.Load path row = absurd row
   refused_sizes why.FileBytes path row = absurd row
+  refused_sizes why.Files path row = absurd row
+  refused_sizes why.ImportCycle path row = absurd row
   refused_sizes why.Memory path row = absurd row
 
   refused_unique : (reason : Why) (path : List ℕ) → UniqueRow reason words old new path → Ends (Unique (record { why = reason; path = path }))
-  refused_unique (why.Unique err) path row =
-      let u = rw row.path_is at row.unaccepted in
-      of_path row.asked path (why.Unique err) row.path_is (of_tokens row.asked row.command u.text u.loaded (why.Unique err) u.unaccepted)
+  refused_unique (why.Unique err) path row = let u = row.unaccepted in
+      subst (λ p. Ends (status_for (why.Unique err) p)) (sym u.path_is) (unique_so row.asked row.command u.files u.read err u.because)
   refused_unique (why.Lex err) path row = absurd row
   refused_unique (why.Parse err) path row = absurd row
   refused_unique (why.NotBuilt place) path row = absurd row
@@ -408,10 +429,12 @@ module _ (words : List (List ℕ)) (old new : Outside) (quiet : NoFault old new)
   refused_unique (why.Sizes err) path row = absurd row
   refused_unique why.Load path row = absurd row
   refused_unique why.FileBytes path row = absurd row
+  refused_unique why.Files path row = absurd row
+  refused_unique why.ImportCycle path row = absurd row
   refused_unique why.Memory path row = absurd row
 
   no_load : (reason : Why) (path : List ℕ) (status : Status) → LoadRow reason words old new path → Ends status
-  no_load why.Load path status row = absurd (quiet.loader row.unaccepted.faults)
+  no_load why.Load path status row = absurd (quiet.loader row.unaccepted.unread.faults)
   no_load (why.Lex err) path status row = absurd row
   no_load (why.Parse err) path status row = absurd row
   no_load (why.NotBuilt place) path status row = absurd row
@@ -420,6 +443,8 @@ module _ (words : List (List ℕ)) (old new : Outside) (quiet : NoFault old new)
   no_load (why.Sizes err) path status row = absurd row
   no_load (why.Unique err) path status row = absurd row
   no_load why.FileBytes path status row = absurd row
+  no_load why.Files path status row = absurd row
+  no_load why.ImportCycle path status row = absurd row
   no_load why.Memory path status row = absurd row
 
   -- ---- what is done with an accepted source
@@ -439,7 +464,7 @@ module _ (words : List (List ℕ)) (old new : Outside) (quiet : NoFault old new)
     entry = asked.entry
 
     resolved : Elaborates source.files (Ok (flat_of source.flat))
-    resolved = let t = s.accepted.accepted.accepted in subst (λ files. Elaborates files (Ok (flat_of source.flat))) (sym t.files) t.acceptable.resolved.resolves.resolved
+    resolved = let t = s.accepted in subst (λ files. Elaborates files (Ok (flat_of source.flat))) (sym t.files) t.acceptable.resolved.resolves.resolved
 
     -- what is done is this
     done : (action : Action) → asked.action ≡ action → (status : Status) → Holds (Done_with action asked old.input.left (flat_of source.flat)) (Agrees status) → Ends status
@@ -450,9 +475,9 @@ module _ (words : List (List ℕ)) (old new : Outside) (quiet : NoFault old new)
       entered : (status : Status) (e : Entered) → IsEntered source entry e → ((end : Result Ending Status) → Argued (flat_of source.flat) entry asked.turns old.input.left end → Agrees status end) → Ends status
       entered status e is h = done Run is_run status (λ end run. behind_entry source entry asked.turns resolved e is old.input.left end (Agrees status end) run (h end))
 
-      unread : (err : TextErr) → InputRow asked source before behind err → Ends (Input err)
-      unread text.Memory row = absurd row
-      unread err row = entered (Input err) row.entered row.ready.entered
+      unread_so : (err : TextErr) → InputRow asked source before behind err → Ends (Input err)
+      unread_so text.Memory row = absurd row
+      unread_so err row = entered (Input err) row.entered row.ready.entered
           (refused_input source entry asked.turns resolved row.entered row.ready.entered err row.bytes old.input.left row.read.all row.short row.refuses)
 
       ran : (status : Status) → ProgramRow status asked source before behind → Ends status ⊎ (status ≡ Memory)
@@ -465,7 +490,7 @@ module _ (words : List (List ℕ)) (old new : Outside) (quiet : NoFault old new)
       ran (Limit limit.Depth) row = inl (entered (Limit limit.Depth) row.entered row.is_entered (past_limit source entry asked.turns resolved row.entered row.is_entered (Limit limit.Depth) (inr refl) row.answers old.input.left))
       ran (Limit limit.InputBytes) row = inl (entered (Limit limit.InputBytes) row.entered row.ready.entered (too_long source entry asked.turns resolved row.entered row.ready.entered old.input.left row.past.long))
       ran ReadFault row = absurd (quiet.input row.faults)
-      ran (Input err) row = inl (unread err row)
+      ran (Input err) row = inl (unread_so err row)
       ran (Failure report path) row =
           let c = row.1.comes in
           inl (entered (Failure report path) c.entered c.ready.entered (ran_to source entry asked.turns resolved c.entered c.ready.entered (Failure report path) (Fails report) (path, inl refl) c.bytes c.arguments c.words c.allows c.alone old.input.left c.read.all c.short c.reads))
@@ -482,7 +507,9 @@ module _ (words : List (List ℕ)) (old new : Outside) (quiet : NoFault old new)
       ran (Sizes refused) row = absurd row
       ran (Unique refused) row = absurd row
       ran (Limit limit.FileBytes) row = absurd row
+      ran (Limit limit.Files) row = absurd row
       ran (Limit limit.Nesting) row = absurd row
+      ran (Limit limit.Applications) row = absurd row
 
     module _ (is_check : asked.action ≡ Check) where
       checked : (status : Status) → CheckRow status before behind → Ends status ⊎ (status ≡ Memory)
@@ -502,9 +529,10 @@ module _ (words : List (List ℕ)) (old new : Outside) (quiet : NoFault old new)
   ends (Types refused) row = inl (refused_types refused.why refused.path row)
   ends (Sizes refused) row = inl (refused_sizes refused.why refused.path row)
   ends (Unique refused) row = inl (refused_unique refused.why refused.path row)
-  ends (Limit limit.FileBytes) row =
-      let f = row.row in let u = rw f.path_is at f.unaccepted in inl (file_too_long f.asked f.command (held_err files f.asked.file u.long))
+  ends (Limit limit.FileBytes) row = inl (front_long row.path row.row)
+  ends (Limit limit.Files) row = inl (front_many row.path row.row)
   ends (Limit limit.Nesting) row = inl (front_parse (parse.TooDeep row.place) row.path row.row)
+  ends (Limit limit.Applications) row = inl (front_names (names.TooManyApplications row.place) row.path row.row)
   ends (Limit limit.Nodes) row = acts row.asked row.source row.started row.asked.action refl (Limit limit.Nodes) row.ended
   ends (Limit limit.Depth) row = acts row.asked row.source row.started row.asked.action refl (Limit limit.Depth) row.ended
   ends (Limit limit.InputBytes) row = acts row.asked row.source row.started row.asked.action refl (Limit limit.InputBytes) row.ended

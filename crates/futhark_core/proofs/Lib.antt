@@ -8,3 +8,4 @@ pub mod Misusing
 pub mod Reading
 pub mod Completing
 pub mod Opening
+mod Filing

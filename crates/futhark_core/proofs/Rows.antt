@@ -1,5 +1,5 @@
 -- The rows of a run that is ready, from what its stages answered.
-use Rattle.std.proofs.Common.{◌≡◌, ◌≤◌, inr, ℕ, List, Bool, map, length, true, refl, sym, ap, subst, ◌∙◌}
+use Rattle.std.proofs.Common.{◌≡◌, ◌≤◌, inl, inr, ℕ, List, Bool, map, length, true, refl, sym, ap, subst, ◌∙◌}
 use Rattle.std.specs.Prelude.{Ok, Err}
 use Rattle.fut_io.specs.Outside.{AllRead, Took, TookPart}
 use Rattle.fut_scalar.specs.declared.report.FailKind.{FailKind}
@@ -16,7 +16,7 @@ use Rattle.elab_laws.proofs.Answers.{lawful_files_have_one_answer}
 use Rattle.array_data.specs.Held.{held_all}
 use Rattle.array_data.specs.declared.data.Data.{Data}
 use Rattle.data_values.specs.Met.{each_met}
-use Rattle.fut_eval.specs.Evaluates.{Evaluates, came_to, failed, no_memory}
+use Rattle.fut_eval.specs.Evaluates.{Evaluates, came_to, failed}
 use Rattle.fut_eval.specs.declared.program.EvalErr.{EvalErr}
 use Rattle.fut_eval.specs.declared.program.EvalErr.TheVariants as eval
 use Rattle.value_text.specs.Arguments.{Reads, Explains}
@@ -26,9 +26,11 @@ use Rattle.value_text.specs.declared.reading.TextErr.TheVariants as text
 use Rattle.command_words.specs.CommandLine.{Command}
 use Rattle.futhark_core.specs.Acceptance.{Source}
 use Rattle.unfolded_runs.specs.Results.{Are_arguments, components_of, opened}
-use Rattle.futhark_status.specs.declared.status.Status.TheVariants.{Done, WriteFault}
+use Rattle.elab_scopes.specs.Imports.{Source_file, item, path_of}
+use Rattle.futhark_status.specs.declared.status.Status.{Status}
+use Rattle.futhark_status.specs.declared.status.Status.TheVariants.{Done, Memory, WriteFault}
 use Rattle.futhark_core.specs.Meaning.{Entered, Allows, Alone, told_of}
-use Rattle.futhark_core.specs.Private.Stages.{Runs_for, kind_status, failed_status, input_status}
+use Rattle.futhark_core.specs.Private.Stages.{Is_failed_status, Runs_for, input_status, kind_status, report_status}
 use Rattle.futhark_core.specs.Row.{Streams, IsReady, ProgramRow, ComesTo, most_input}
 
 module _ (asked : Command) (source : Source) (e : Entered) (ready : IsReady asked source e) (old new : Streams) (params : List DataType) (same : e.params ≡ params) (wants : List ArgType) (wanted_same : e.wanted ≡ wants) where
@@ -55,7 +57,7 @@ module _ (asked : Command) (source : Source) (e : Entered) (ready : IsReady aske
     alone answer words allows other lawful =
         sym (lawful_files_have_one_answer source.files (told_of e) asked.turns e.number given other answer lawful.0 words true lawful.1 allows.0)
 
-    by_kind : (kind : FailKind) (report : Report) (path : List ℕ) → report.kind ≡ kind → ComesTo asked source old.input new.input (Fails report) → path ≡ asked.file → new.out ≡ old.out → ProgramRow (kind_status kind report path) asked source old new
+    by_kind : (kind : FailKind) (report : Report) (path : List ℕ) → report.kind ≡ kind → ComesTo asked source old.input new.input (Fails report) → path ≡ path_of (item source.files report.place.file) → new.out ≡ old.out → ProgramRow (kind_status kind report path) asked source old new
     by_kind fail.Division report path k c is out = ((λ t. absurd (let z : fail.Division ≡ fail.Turns = sym k ∙ t in cc)), record { path_is = is; comes = c; out = out })
     by_kind fail.Power report path k c is out = ((λ t. absurd (let z : fail.Power ≡ fail.Turns = sym k ∙ t in cc)), record { path_is = is; comes = c; out = out })
     by_kind fail.Bounds report path k c is out = ((λ t. absurd (let z : fail.Bounds ≡ fail.Turns = sym k ∙ t in cc)), record { path_is = is; comes = c; out = out })
@@ -65,10 +67,18 @@ module _ (asked : Command) (source : Source) (e : Entered) (ready : IsReady aske
     by_kind fail.TooLarge report path k c is out = ((λ t. absurd (let z : fail.TooLarge ≡ fail.Turns = sym k ∙ t in cc)), record { path_is = is; comes = c; out = out })
     by_kind fail.Turns report path k c is out = (k, record { path_is = is; comes = c; out = out })
 
-    pub unevaluated : (err : EvalErr) (path : List ℕ) → Evaluates asked.turns p given (Err err) → path ≡ asked.file → new.out ≡ old.out → ProgramRow (failed_status err path) asked source old new
-    unevaluated (eval.Failed report) path (failed f m) is out =
-        by_kind report.kind report path refl (record { entered = e; ready = ready; bytes = bytes; read = read; short = short; arguments = arguments; reads = rw wanted_same reads; words = f; allows = runs.fails given of report f m; alone = alone (Fails report) f (runs.fails given of report f m) }) is out
-    unevaluated eval.Memory path no_memory is out = (out, inr (e, ready))
+    failing : (report : Report) → Evaluates asked.turns p given (Err (eval.Failed report)) → new.out ≡ old.out → ProgramRow (report_status report (path_of (item source.files report.place.file))) asked source old new
+    failing report (failed f m) out =
+        by_kind report.kind report (path_of (item source.files report.place.file)) refl (record { entered = e; ready = ready; bytes = bytes; read = read; short = short; arguments = arguments; reads = rw wanted_same reads; words = f; allows = runs.fails given of report f m; alone = alone (Fails report) f (runs.fails given of report f m) }) refl out
+
+    without_memory : (status : Status) → status ≡ Memory → new.out ≡ old.out → ProgramRow status asked source old new
+    without_memory status is out = subst (λ (s : Status). ProgramRow s asked source old new) (sym is) (out, inr (e, ready))
+
+    pub unevaluated : (err : EvalErr) (files : List Source_file) → source.files ≡ files → (status : Status) → Evaluates asked.turns p given (Err err) → Is_failed_status files err status → new.out ≡ old.out → ProgramRow status asked source old new
+    unevaluated (eval.Failed report) files these status gave (inl is) out =
+        subst (λ (s : Status). ProgramRow s asked source old new) (sym (is ∙ ap (λ fs. report_status report (path_of (item fs report.place.file))) (sym these))) (failing report gave out)
+    unevaluated (eval.Failed report) files these status gave (inr is) out = without_memory status is out
+    unevaluated eval.Memory files these status gave is out = without_memory status is out
 
     -- the components that are given, opened, are those of a result that the files allow
     allowed : (vs : List Data) → Evaluates asked.turns p given (Ok vs) → (result : Datum) × (opened e.tuple (held_all vs) ≡ components_of e.tuple result) × (words : ℕ) × Allows source e asked.turns given true (Gives result) words

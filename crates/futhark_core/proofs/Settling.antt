@@ -1,14 +1,6 @@
 -- Each stage of a run comes to one end, once something is known of it; and so do stages one after another.
-use Rattle.std.proofs.Common.{◌≡◌, ◌≤◌, ◌<◌, ℕ, List, length, sym, ap, subst, ◌∙◌, arith, refl}
-use Rattle.std.specs.Prelude.{Option, None, Some, IfSome, IsSomeAnd, Result, Ok, Err}
-use Rattle.fut_scalar.specs.declared.place.Place.{Place}
-use Rattle.fut_token.specs.declared.token.Token.{Token}
-use Rattle.fut_io.specs.Outside.{file_at}
-use Rattle.fut_lexer.specs.Lexing.{HasTokens, RefusesText}
-use Rattle.fut_lexer.specs.declared.lexer.LexErr.{LexErr}
-use Rattle.fut_lexer.proofs.Readings.{one_reading}
-use Rattle.fut_ast.specs.Grammar.{Derives}
-use Rattle.fut_ast.specs.declared.module.Program.{Program}
+use Rattle.std.proofs.Common.{◌≡◌, ℕ, List, sym, ap, subst, ◌∙◌, refl}
+use Rattle.std.specs.Prelude.{Some, Result, Ok, Err}
 use Rattle.fut_typing.specs.Names.{Names as Numbering, AreNames}
 use Rattle.fut_typing.specs.Program.{Defined}
 use Rattle.fut_typing.proofs.Programs.{no_type_or_typing, no_type_or_place, no_type_or_ambiguous, place_or_typing, place_or_ambiguous}
@@ -17,8 +9,8 @@ use Rattle.typing_laws.specs.NumberingClaims.{Hangs_on_no_numbering}
 use Rattle.typing_laws.proofs.NumberingPrograms.{typing_is_one, no_type_is_one, function_place_is_one, ambiguous_is_one}
 use Rattle.elab_scopes.specs.Names.{Refusal}
 use Rattle.elab_scopes.specs.Names as refusal
+use Rattle.elab_scopes.specs.Imports.{Source_file}
 use Rattle.elab_scopes.specs.Programs.{FlatProgram}
-use Rattle.unbuilt_tokens.specs.Unbuilt.{first_unbuilt}
 use Rattle.fut_aliases.specs.declared.refusals.Broken.{Broken}
 use Rattle.unique_programs.specs.Rules.{Breaks_none, First_broken}
 use Rattle.source_laws.proofs.Sources.{not_broken_too}
@@ -31,17 +23,14 @@ use Rattle.typed_programs.specs.Ordered.{Some_order}
 use Rattle.sizing_laws.specs.Order.{In_order}
 use Rattle.typed_programs.specs.declared.typed.TypeErr.{TypeErr}
 use Rattle.typed_programs.specs.declared.typed.TypeErr.TheVariants as types
-use Rattle.front.specs.Acceptance.{file_alone, IsParsed, Resolves, Sizable, Typable, definitions_of, named_file}
+use Rattle.front.specs.Acceptance.{Resolves, Sizable, Typable, definitions_of}
 use Rattle.front.specs.declared.refusals.NameErr.{NameErr}
 use Rattle.front.specs.declared.refusals.NameErr.TheVariants as names
 use Rattle.front.proofs.Answering.{resolves_once}
 use Rattle.command_words.specs.CommandLine.{Command, command_of}
-use Rattle.futhark_status.specs.declared.status.LimitKind.TheVariants as limit
-use Rattle.futhark_status.specs.declared.status.Why.TheVariants as why
 use Rattle.futhark_status.specs.declared.status.Status.{Status}
-use Rattle.futhark_status.specs.declared.status.Status.TheVariants.{Usage, Limit}
-use Rattle.futhark_core.specs.Row.{status_for}
-use Rattle.futhark_core.specs.Comes.{AlikeTypes, Built, Commanded, FileHeld, Lacks, Named, Onward, Parsed, ParserRefusal, Stage, Then, Sized, Tokenized, Typed, Unbroken, refusal_of}
+use Rattle.futhark_status.specs.declared.status.Status.TheVariants.{Usage}
+use Rattle.futhark_core.specs.Comes.{AlikeTypes, Commanded, Lacks, Named, Onward, Stage, Then, Sized, Typed, Unbroken, names_status, refusal_of, sizes_status, types_status, unique_status}
 
 -- of all that the stage comes to this holds
 abbrev pub Holds : {A : Type 0} → Stage A → (Result A Status → Type 0) → Type 0
@@ -69,7 +58,7 @@ then_ends {A} {B} first next Q one x run = go run.0 (one run.0 run.1) run.2
     go (Ok a) ends on = absurd ends
     go (Err status) ends on = subst (λ (y : Result B Status). EndsAs Q y) (sym on) ends
 
--- ---- the words and the file
+-- ---- the words
 
 pub commanded_ok : (words : List (List ℕ)) (command : Command) → command_of words ≡ Ok command → Settles (Commanded words) (Ok command)
 commanded_ok words command e (Ok other) p = let same : other ≡ command = cc in ap Ok same
@@ -82,51 +71,6 @@ commanded_err words word e (Err status) p = let w = p.1 in let same : p.0 ≡ wo
 pub some_same : {A : Type 0} (x : A) (y : A) → Some x ≡ Some y → x ≡ y
 some_same x y e = cc
 
-none_some : {A : Type 0} (o : Option A) (x : A) → o ≡ None → o ≡ Some x → ⊥
-none_some o x e f = let same : None ≡ Some x = sym e ∙ f in cc
-
-pub held_ok : (files : Option (List (List ℕ × List ℕ))) (file text : List ℕ) → IfSome files (λ all. file_at all file ≡ Some text) → length text ≤ 4194304 →
-    Settles (FileHeld files file) (Ok text)
-held_ok None file text is short a p = absurd p
-held_ok (Some all) file text is short (Ok other) p = ap Ok (some_same other text (sym p.0 ∙ is))
-held_ok (Some all) file text is short (Err status) p =
-    let e = some_same p.0 text (sym p.1 ∙ is) in let many = p.2 in let l = ap length e in absurd (omega arith)
-
-pub held_err : (files : Option (List (List ℕ × List ℕ))) (file : List ℕ) → IfSome files (λ all. IsSomeAnd (file_at all file) (λ text. 4194304 < length text)) →
-    Settles (FileHeld files file) (Err (Limit limit.FileBytes))
-held_err None file long a p = absurd p
-held_err (Some all) file long (Err status) p = ap Err p.3
-held_err (Some all) file long (Ok text) p = let is = p.0 in let few = p.1 in let many = rw is at long in absurd (omega arith)
-
--- ---- tokens and their program
-
-module _ (file text : List ℕ) where
-  pub tokenized_ok : (tokens : List Token) → HasTokens named_file text tokens → Settles (Tokenized file text) (Ok tokens)
-  tokenized_ok tokens is (Ok other) p = ap Ok (one_reading.one_list named_file text other tokens p is)
-  tokenized_ok tokens is (Err status) p = absurd (one_reading.not_both named_file text tokens p.0 is p.1)
-
-  pub tokenized_err : (err : LexErr) → RefusesText named_file text err → Settles (Tokenized file text) (Err (status_for (why.Lex err) file))
-  tokenized_err err is (Ok tokens) p = absurd (one_reading.not_both named_file text tokens err p is)
-  tokenized_err err is (Err status) p = ap Err (p.2 ∙ ap (λ (e : LexErr). status_for (why.Lex e) file) (one_reading.one_refusal named_file text p.0 err p.1 is))
-
-module _ (file : List ℕ) (tokens : List Token) where
-  pub parsed_ok : (program : Program) → IsParsed tokens program → Settles (Parsed file tokens) (Ok program)
-  parsed_ok program is (Ok other) p = ap Ok (is.only other p.0 p.2)
-  parsed_ok program is (Err status) p = absurd (p.0 program is.height is.flat is.spelled)
-
-  pub parsed_none : ((program : Program) (h : ℕ) → h ≤ 201 → Derives tokens program h → ⊥) → Holds (Parsed file tokens) (EndsAs (ParserRefusal file))
-  parsed_none none (Ok program) p = absurd (none program p.0 p.1 p.2)
-  parsed_none none (Err status) p = p.1
-
-  module _ (program : Program) where
-    pub built_ok : first_unbuilt tokens ≡ None → Settles (Built file tokens program) (Ok program)
-    built_ok none (Ok same) p = ap Ok p.1
-    built_ok none (Err status) p = let some = p.1 in absurd cc
-
-    pub built_err : (place : Place) → first_unbuilt tokens ≡ Some place → Settles (Built file tokens program) (Err (status_for (why.NotBuilt place) file))
-    built_err place is (Ok same) p = let none = p.0 in absurd cc
-    built_err place is (Err status) p = ap Err (p.2 ∙ ap (λ (x : Place). status_for (why.NotBuilt x) file) (some_same p.0 place (sym p.1 ∙ is)))
-
 -- ---- names
 
 -- a refusal of names, as it is answered; one of a form that is not built is none
@@ -135,8 +79,8 @@ told_as other (Ok flat) = other
 told_as other (Err (refusal.Unbound name at)) = names.Unbound name at
 told_as other (Err (refusal.Twice name at)) = names.Twice name at
 told_as other (Err (refusal.NoMember name at)) = names.NoMember name at
-told_as other (Err (refusal.SealMissing name at)) = other
-told_as other (Err (refusal.TooManyApplications at)) = other
+told_as other (Err (refusal.SealMissing name at)) = names.SealMissing name at
+told_as other (Err (refusal.TooManyApplications at)) = names.TooManyApplications at
 told_as other (Err refusal.TooFar) = other
 told_as other (Err (refusal.NotYet at)) = other
 
@@ -144,6 +88,8 @@ told_back : (other err : NameErr) → told_as other (Err (refusal_of err)) ≡ e
 told_back other (names.Unbound name at) = refl
 told_back other (names.Twice name at) = refl
 told_back other (names.NoMember name at) = refl
+told_back other (names.SealMissing name at) = refl
+told_back other (names.TooManyApplications at) = refl
 
 same_err : (err other : NameErr) → ◌≡◌ {A = Result FlatProgram Refusal} (Err (refusal_of err)) (Err (refusal_of other)) → err ≡ other
 same_err err other e = sym (told_back err err) ∙ ap (told_as err) e ∙ told_back err other
@@ -152,16 +98,16 @@ flat_in : FlatProgram → Result FlatProgram Refusal → FlatProgram
 flat_in other (Ok flat) = flat
 flat_in other (Err e) = other
 
-module _ (file : List ℕ) (program : Program) where
-  pub named_ok : (flat : FlatProgram) → Resolves (file_alone file program) (Ok flat) → Settles (Named file program) (Ok flat)
+module _ (sources : List Source_file) where
+  pub named_ok : (flat : FlatProgram) → Resolves sources (Ok flat) → Settles (Named sources) (Ok flat)
   unfolding flat_in
-  named_ok flat is (Ok other) p = ap Ok (ap (flat_in other) (resolves_once (file_alone file program) (Ok other) (Ok flat) p is))
-  named_ok flat is (Err status) p = let same = resolves_once (file_alone file program) (Ok flat) (Err (refusal_of p.0)) is p.1 in absurd cc
+  named_ok flat is (Ok other) p = ap Ok (ap (flat_in other) (resolves_once sources (Ok other) (Ok flat) p is))
+  named_ok flat is (Err status) p = let same = resolves_once sources (Ok flat) (Err (refusal_of p.0)) is p.1 in absurd cc
 
-  pub named_err : (err : NameErr) → Resolves (file_alone file program) (Err (refusal_of err)) → Settles (Named file program) (Err (status_for (why.Names err) file))
-  named_err err is (Ok flat) p = let same = resolves_once (file_alone file program) (Ok flat) (Err (refusal_of err)) p is in absurd cc
+  pub named_err : (err : NameErr) → Resolves sources (Err (refusal_of err)) → Settles (Named sources) (Err (names_status sources err))
+  named_err err is (Ok flat) p = let same = resolves_once sources (Ok flat) (Err (refusal_of err)) p is in absurd cc
   named_err err is (Err status) p =
-      ap Err (p.2 ∙ ap (λ (e : NameErr). status_for (why.Names e) file) (same_err p.0 err (resolves_once (file_alone file program) (Err (refusal_of p.0)) (Err (refusal_of err)) p.1 is)))
+      ap Err (p.2 ∙ ap (λ (e : NameErr). names_status sources e) (same_err p.0 err (resolves_once sources (Err (refusal_of p.0)) (Err (refusal_of err)) p.1 is)))
 
 -- ---- types
 
@@ -194,44 +140,44 @@ lacks_is_one (types.Ambiguous at) = ambiguous_is_one
 lacks_is_one types.Memory = λ M N are_names also ds lacks. lacks
 
 -- a refusal of types like this one
-abbrev pub TypesRefusal : List ℕ → TypeErr → Status → Type 0
-TypesRefusal file err status = (other : TypeErr) × AlikeTypes err other × (status ≡ status_for (why.Types other) file)
+abbrev pub TypesRefusal : List Source_file → TypeErr → Status → Type 0
+TypesRefusal sources err status = (other : TypeErr) × AlikeTypes err other × (status ≡ types_status sources other)
 
-module _ (file : List ℕ) (flat : FlatProgram) where
-  pub typed_ok : Some_numbering (λ N. Typable N (definitions_of flat)) → Settles (Typed file flat) (Ok flat)
+module _ (sources : List Source_file) (flat : FlatProgram) where
+  pub typed_ok : Some_numbering (λ N. Typable N (definitions_of flat)) → Settles (Typed sources flat) (Ok flat)
   typed_ok some (Ok same) p = ap Ok p.1
   typed_ok some (Err status) p = let w = typing_is_one some.0 p.1.0 some.1 p.1.1 (definitions_of flat) some.2.0 some.2.1 in absurd (lacks_or_typing p.1.0 p.1.1 (definitions_of flat) p.0 p.1.2 (w.0, w.1))
 
-  pub typed_err : (err : TypeErr) → Some_numbering (λ N. Lacks err N (definitions_of flat)) → Holds (Typed file flat) (EndsAs (TypesRefusal file err))
+  pub typed_err : (err : TypeErr) → Some_numbering (λ N. Lacks err N (definitions_of flat)) → Holds (Typed sources flat) (EndsAs (TypesRefusal sources err))
   typed_err err some (Ok same) p = let w = typing_is_one p.0.0 some.0 p.0.1 some.1 (definitions_of flat) p.0.2.0 p.0.2.1 in absurd (lacks_or_typing some.0 some.1 (definitions_of flat) err some.2 (w.0, w.1))
   typed_err err some (Err status) p = (p.0, alike p.1.0 p.1.1 (definitions_of flat) err p.0 (lacks_is_one err some.0 p.1.0 some.1 p.1.1 (definitions_of flat) some.2) p.1.2, p.2)
 
 -- ---- sizes
 
 -- a refusal because of sizes
-abbrev pub SizesRefusal : List ℕ → Status → Type 0
-SizesRefusal file status = (err : Misfit) × (status ≡ status_for (why.Sizes err) file)
+abbrev pub SizesRefusal : List Source_file → Status → Type 0
+SizesRefusal sources status = (err : Misfit) × (status ≡ sizes_status sources err)
 
-module _ (file : List ℕ) (flat : FlatProgram) where
-  pub sized_ok : Some_order (λ N. Sizable N (definitions_of flat)) → Settles (Sized file flat) (Ok flat)
+module _ (sources : List Source_file) (flat : FlatProgram) where
+  pub sized_ok : Some_order (λ N. Sizable N (definitions_of flat)) → Settles (Sized sources flat) (Ok flat)
   sized_ok some (Ok same) p = ap Ok p.1
   sized_ok some (Err status) p = let refused = p.1 some.0 some.1 some.2 (Ok some.3.0) some.3.1 in let is = refused.1 in absurd cc
 
-  pub sized_err : (N : Numbering) → AreNames N → In_order N → (refusal : Size_refusal) → Is_sized (definitions_of flat) (Err refusal) N → Holds (Sized file flat) (EndsAs (SizesRefusal file))
+  pub sized_err : (N : Numbering) → AreNames N → In_order N → (refusal : Size_refusal) → Is_sized (definitions_of flat) (Err refusal) N → Holds (Sized sources flat) (EndsAs (SizesRefusal sources))
   sized_err N are order refusal first (Ok same) p = let has = p.0 N are order (Err refusal) first in let is = has.1 in absurd cc
   sized_err N are order refusal first (Err status) p = (p.0, p.2)
 
 -- ---- rules of aliases and consumption
 
 -- a refusal because of one
-abbrev pub UniqueRefusal : List ℕ → Status → Type 0
-UniqueRefusal file status = (err : Misuse) × (status ≡ status_for (why.Unique err) file)
+abbrev pub UniqueRefusal : List Source_file → Status → Type 0
+UniqueRefusal sources status = (err : Misuse) × (status ≡ unique_status sources err)
 
-module _ (file : List ℕ) (flat : FlatProgram) where
-  pub unbroken_ok : Some_order (Breaks_none (definitions_of flat)) → Settles (Unbroken file flat) (Ok flat)
+module _ (sources : List Source_file) (flat : FlatProgram) where
+  pub unbroken_ok : Some_order (Breaks_none (definitions_of flat)) → Settles (Unbroken sources flat) (Ok flat)
   unbroken_ok some (Ok same) p = ap Ok p.1
   unbroken_ok some (Err status) p = absurd (not_broken_too (definitions_of flat) p.1.3.0 some.0 p.1.0 some.1 p.1.1 some.2 p.1.2 some.3 p.1.3.1)
 
-  pub unbroken_err : (N : Numbering) → AreNames N → In_order N → (rule : Broken) → First_broken (definitions_of flat) (Some rule) N → Holds (Unbroken file flat) (EndsAs (UniqueRefusal file))
+  pub unbroken_err : (N : Numbering) → AreNames N → In_order N → (rule : Broken) → First_broken (definitions_of flat) (Some rule) N → Holds (Unbroken sources flat) (EndsAs (UniqueRefusal sources))
   unbroken_err N are order rule first (Ok same) p = absurd (not_broken_too (definitions_of flat) rule p.0.0 N p.0.1 are p.0.2 order p.0.3 first)
   unbroken_err N are order rule first (Err status) p = (p.0, p.2)

@@ -2,14 +2,14 @@
 --
 -- A run goes by stages, one after another. Each gives something to the next, or ends the run with a status. What is said of
 -- types holds for some way to number names and records, and so for each; an entry has one type, whatever typing shows it.
-use Rattle.std.specs.Prelude.{◌≡◌, ◌≤◌, ◌<◌, ◌⊎◌, ℕ, List, length, map, true, Option, Some, None, Result, Ok, Err}
+use Rattle.std.specs.Prelude.{◌≡◌, ◌≤◌, ◌<◌, ◌⊎◌, ℕ, suc, List, ◌∷◌, length, map, true, Option, Some, None, Result, Ok, Err}
 use Rattle.fut_scalar.specs.declared.place.Place.{Place}
 use Rattle.fut_value.specs.Values.{datum_of}
 use Rattle.fut_value.specs.declared.value.Value.{Value}
 use Rattle.fut_meaning.specs.Answers.{Answer, Gives, Fails}
 use Rattle.fut_token.specs.declared.token.Token.{Token}
 use Rattle.fut_io.specs.Counts.{Rose}
-use Rattle.fut_io.specs.Outside.{file_at}
+use Rattle.fut_io.specs.Outside.{LoaderSeen, file_at}
 use Rattle.fut_lexer.specs.Lexing.{HasTokens, RefusesText}
 use Rattle.fut_lexer.specs.declared.lexer.LexErr.{LexErr}
 use Rattle.fut_ast.specs.Grammar.{Derives}
@@ -24,7 +24,12 @@ use Rattle.elab_scopes.specs.Programs.{FlatProgram}
 use Rattle.elab_scopes.specs.Elaboration.{Elaborates}
 use Rattle.module_elab.specs.Elaborated.{program_of as flat_of}
 use Rattle.unbuilt_tokens.specs.Unbuilt.{first_unbuilt}
-use Rattle.front.specs.Acceptance.{file_alone, Resolves, Typable, definitions_of, named_file}
+use Rattle.std.specs.List.{range_with_len}
+use Rattle.elab_scopes.specs.Imports.{Source_file}
+use Rattle.file_order.specs.Order.{First_cycle}
+use Rattle.source_files.specs.Files.{Are_files, Are_read}
+use Rattle.source_files.specs.Reading.{Is_next}
+use Rattle.front.specs.Acceptance.{Acyclic, IsPrelude, Resolves, Typable, definitions_of, misfit_place, misuse_place, names_place, path_of_file, prelude_of, types_place}
 use Rattle.front.specs.Entries.{HasEntry, HasNoEntry}
 use Rattle.front.specs.declared.refusals.NameErr.{NameErr}
 use Rattle.front.specs.declared.refusals.NameErr.TheVariants as names
@@ -75,41 +80,70 @@ abbrev pub Commanded : List Name → Stage Command
 Commanded words (Ok command) = command_of words ≡ Ok command
 Commanded words (Err status) = (word : ℕ) × (command_of words ≡ Err word) × (status ≡ Usage word)
 
--- a told file holds a text, which may be too long
-abbrev pub FileHeld : Option (List (List ℕ × List ℕ)) → Name → Stage (List ℕ)
-FileHeld None file end = ⊥
-FileHeld (Some files) file (Ok text) = (file_at files file ≡ Some text) × (length text ≤ 4194304)
-FileHeld (Some files) file (Err status) = (text : List ℕ) × (file_at files file ≡ Some text) × (4194304 < length text) × (status ≡ Limit limit.FileBytes)
+-- of told files a loader tells this, before it is asked
+abbrev pub told_by : List (List ℕ × List ℕ) → LoaderSeen
+told_by files = record { files = Some files; faults = 0; overs = 0; lost = None }
 
--- the text has tokens, or is refused
-abbrev pub Tokenized : Name → List ℕ → Stage (List Token)
-Tokenized file text (Ok tokens) = HasTokens named_file text tokens
-Tokenized file text (Err status) = (err : LexErr) × RefusesText named_file text err × (status ≡ status_for (why.Lex err) file)
-
--- the status is the parser's refusal of this file; which one, and at which token, its row says
+-- the status is the parser's refusal of the file at this path; which one, and at which token, its row says
 abbrev pub ParserRefusal : Name → Status → Type 0
-ParserRefusal file status = (err : ParseErr) × (status ≡ status_for (why.Parse err) file)
+ParserRefusal path status = (err : ParseErr) × (status ≡ status_for (why.Parse err) path)
 
--- the tokens spell a program that is nested at most 200 deep, or none
-abbrev pub Parsed : Name → List Token → Stage Program
-Parsed file tokens (Ok program) = (h : ℕ) × (h ≤ 201) × Derives tokens program h
-Parsed file tokens (Err status) = ((program : Program) (h : ℕ) → h ≤ 201 → Derives tokens program h → ⊥) × ParserRefusal file status
+-- these tokens are of a program nested at most 200 deep
+abbrev pub Is_program : List Token → Type 0
+Is_program tokens = (program : Program) × (h : ℕ) × (h ≤ 201) × Derives tokens program h
 
--- no token of a form stands among them that is not built, or one does
-abbrev pub Built : Name → List Token → Program → Stage Program
-Built file tokens program (Ok same) = (first_unbuilt tokens ≡ None) × (same ≡ program)
-Built file tokens program (Err status) = (place : Place) × (first_unbuilt tokens ≡ Some place) × (status ≡ status_for (why.NotBuilt place) file)
+-- A text, which would be that of the file of this number at this path, is refused with this status: it has no tokens, or these spell no
+-- program that is nested at most 200 deep, or one in which a form stands that is not built.
+pub data Tokens_refused (number : ℕ) (path text : List ℕ) (status : Status) : Type 0 where
+  no_tokens : (err : LexErr) → RefusesText number text err → status ≡ status_for (why.Lex err) path → Tokens_refused number path text status
+  no_program : (tokens : List Token) → HasTokens number text tokens → (Is_program tokens → ⊥) → ParserRefusal path status → Tokens_refused number path text status
+  unbuilt : (tokens : List Token) (place : Place) → HasTokens number text tokens → Is_program tokens → first_unbuilt tokens ≡ Some place → status ≡ status_for (why.NotBuilt place) path → Tokens_refused number path text status
+
+-- it is refused so, or too long
+abbrev pub Text_refused : ℕ → Name → List ℕ → Status → Type 0
+Text_refused number path text status = ((4194304 < length text) × (status ≡ Limit limit.FileBytes)) ⊎ ((length text ≤ 4194304) × Tokens_refused number path text status)
+
+-- reading ends at the file at this path, behind so many files, with this status: there are 256 before it, or its text is refused
+abbrev pub Reading_refused : List (List ℕ × List ℕ) → ℕ → Name → Status → Type 0
+Reading_refused files number path status = ((number ≡ 257) × (status ≡ Limit limit.Files))
+    ⊎ ((number ≤ 256) × (text : List ℕ) × (file_at files path ≡ Some text) × Text_refused number path text status)
+
+-- the files of the program that begins with this one are told files with such texts, or reading ends at one
+abbrev pub FilesRead : Option (List (List ℕ × List ℕ)) → Name → Stage (List Source_file)
+FilesRead None file end = ⊥
+FilesRead (Some files) file (Ok sources) = Are_read (told_by files) file sources
+FilesRead (Some files) file (Err status) = (before : List Source_file) × (path : Name) × Are_files (told_by files) 1 before × (length before ≤ 256) × Is_next file before path × Reading_refused files (suc (length before)) path status
+
+-- none of these files imports itself, or one is the first that does
+abbrev pub Uncycled : List Source_file → Stage (List Source_file)
+Uncycled sources (Ok same) = (prelude : Program) × IsPrelude prelude × Acyclic (prelude_of prelude ∷ sources) × (same ≡ sources)
+Uncycled sources (Err status) = (prelude : Program) × IsPrelude prelude × (number : ℕ) × First_cycle (prelude_of prelude ∷ sources) number (range_with_len 1 (length sources)) × (status ≡ status_for why.ImportCycle (path_of_file sources number))
 
 -- this refusal of names, as it is answered
 abbrev pub refusal_of : NameErr → refusal.Refusal
 refusal_of (names.Unbound name at) = refusal.Unbound name at
 refusal_of (names.Twice name at) = refusal.Twice name at
 refusal_of (names.NoMember name at) = refusal.NoMember name at
+refusal_of (names.SealMissing name at) = refusal.SealMissing name at
+refusal_of (names.TooManyApplications at) = refusal.TooManyApplications at
 
--- behind the prelude the file with this program comes to a flat program, or to a refusal of names
-abbrev pub Named : Name → Program → Stage FlatProgram
-Named file program (Ok flat) = Resolves (file_alone file program) (Ok flat)
-Named file program (Err status) = (err : NameErr) × Resolves (file_alone file program) (Err (refusal_of err)) × (status ≡ status_for (why.Names err) file)
+-- the statuses of refusals behind reading, each with the path of the file in which it stands
+abbrev pub names_status : List Source_file → NameErr → Status
+names_status sources err = status_for (why.Names err) (path_of_file sources (names_place err).file)
+
+abbrev pub types_status : List Source_file → TypeErr → Status
+types_status sources err = status_for (why.Types err) (path_of_file sources (types_place err).file)
+
+abbrev pub sizes_status : List Source_file → Misfit → Status
+sizes_status sources err = status_for (why.Sizes err) (path_of_file sources (misfit_place err).file)
+
+abbrev pub unique_status : List Source_file → Misuse → Status
+unique_status sources err = status_for (why.Unique err) (path_of_file sources (misuse_place err).file)
+
+-- behind the prelude the files come to a flat program, or to a refusal of names
+abbrev pub Named : List Source_file → Stage FlatProgram
+Named sources (Ok flat) = Resolves sources (Ok flat)
+Named sources (Err status) = (err : NameErr) × Resolves sources (Err (refusal_of err)) × (status ≡ names_status sources err)
 
 -- this is what the definitions lack
 abbrev pub Lacks : TypeErr → Numbering → List Defined → Type 0
@@ -119,38 +153,36 @@ Lacks (types.Ambiguous at) N ds = Ambiguous N ds
 Lacks types.Memory N ds = ⊥
 
 -- the flat program has a typing, or lacks one
-abbrev pub Typed : Name → FlatProgram → Stage FlatProgram
-Typed file flat (Ok same) = Some_numbering (λ N. Typable N (definitions_of flat)) × (same ≡ flat)
-Typed file flat (Err status) = (err : TypeErr) × Some_numbering (λ N. Lacks err N (definitions_of flat)) × (status ≡ status_for (why.Types err) file)
+abbrev pub Typed : List Source_file → FlatProgram → Stage FlatProgram
+Typed sources flat (Ok same) = Some_numbering (λ N. Typable N (definitions_of flat)) × (same ≡ flat)
+Typed sources flat (Err status) = (err : TypeErr) × Some_numbering (λ N. Lacks err N (definitions_of flat)) × (status ≡ types_status sources err)
 
 -- this holds of the sizing of the definitions, or of its first refusal, by each typing of theirs in the order of names
 abbrev pub By_each_sizing : List Defined → (Sizing_answer (ℕ → Size) → Type 0) → Type 0
 By_each_sizing ds P = (N : Numbering) → AreNames N → In_order N → (answer : Sizing_answer (ℕ → Size)) → Is_sized ds answer N → P answer
 
 -- by each typing the flat program has a sizing, or by none
-abbrev pub Sized : Name → FlatProgram → Stage FlatProgram
-Sized file flat (Ok same) = By_each_sizing (definitions_of flat) (λ answer. (sizes : ℕ → Size) × (answer ≡ Ok sizes)) × (same ≡ flat)
-Sized file flat (Err status) = (err : Misfit) × By_each_sizing (definitions_of flat) (λ answer. (refusal : Size_refusal) × (answer ≡ Err refusal)) × (status ≡ status_for (why.Sizes err) file)
+abbrev pub Sized : List Source_file → FlatProgram → Stage FlatProgram
+Sized sources flat (Ok same) = By_each_sizing (definitions_of flat) (λ answer. (sizes : ℕ → Size) × (answer ≡ Ok sizes)) × (same ≡ flat)
+Sized sources flat (Err status) = (err : Misfit) × By_each_sizing (definitions_of flat) (λ answer. (refusal : Size_refusal) × (answer ≡ Err refusal)) × (status ≡ sizes_status sources err)
 
 -- by some typing in the order of names the definitions break a rule of aliases and consumption, and this one first
 abbrev pub Breaks_one : List Defined → Numbering → Type 0
 Breaks_one ds N = (rule : Broken) × First_broken ds (Some rule) N
 
 -- by its typings the flat program breaks no rule of aliases and consumption, or one
-abbrev pub Unbroken : Name → FlatProgram → Stage FlatProgram
-Unbroken file flat (Ok same) = Some_order (Breaks_none (definitions_of flat)) × (same ≡ flat)
-Unbroken file flat (Err status) = (err : Misuse) × Some_order (Breaks_one (definitions_of flat)) × (status ≡ status_for (why.Unique err) file)
+abbrev pub Unbroken : List Source_file → FlatProgram → Stage FlatProgram
+Unbroken sources flat (Ok same) = Some_order (Breaks_none (definitions_of flat)) × (same ≡ flat)
+Unbroken sources flat (Err status) = (err : Misuse) × Some_order (Breaks_one (definitions_of flat)) × (status ≡ unique_status sources err)
 
--- the file's text is accepted
+-- the program that begins with the file is accepted
 abbrev pub Accepted : Option (List (List ℕ × List ℕ)) → Name → Stage FlatProgram
 Accepted files file =
-    Then (FileHeld files file) (λ text.
-    Then (Tokenized file text) (λ tokens.
-    Then (Parsed file tokens) (λ parsed.
-    Then (Built file tokens parsed) (λ built.
-    Then (Named file built) (λ flat.
-    Then (Typed file flat) (λ typed.
-    Then (Sized file typed) (λ sized. Unbroken file sized)))))))
+    Then (FilesRead files file) (λ read.
+    Then (Uncycled read) (λ sources.
+    Then (Named sources) (λ flat.
+    Then (Typed sources flat) (λ typed.
+    Then (Sized sources typed) (λ sized. Unbroken sources sized)))))
 
 -- ---- what is done with it
 
@@ -244,13 +276,13 @@ AlikeTypes (types.FunctionPlace at) (types.FunctionPlace place) = Unit {0}
 AlikeTypes (types.Ambiguous at) (types.Ambiguous place) = Unit {0}
 AlikeTypes err other = ⊥
 
--- both are refusals of one file by the parser, because of its types, because of its sizes, or because of a rule of aliases and
--- consumption
+-- both are refusals of one file by the parser, or of one program because of its types, because of its sizes, or because of a rule of
+-- aliases and consumption, perhaps at other places
 abbrev pub Alike : Status → Status → Type 0
-Alike status end = ((file : Name) × ParserRefusal file status × ParserRefusal file end)
-    ⊎ (((file : Name) × (err : TypeErr) × (other : TypeErr) × AlikeTypes err other × (status ≡ status_for (why.Types err) file) × (end ≡ status_for (why.Types other) file))
-    ⊎ (((file : Name) × (err : Misfit) × (other : Misfit) × (status ≡ status_for (why.Sizes err) file) × (end ≡ status_for (why.Sizes other) file))
-    ⊎ ((file : Name) × (err : Misuse) × (other : Misuse) × (status ≡ status_for (why.Unique err) file) × (end ≡ status_for (why.Unique other) file))))
+Alike status end = ((path : Name) × ParserRefusal path status × ParserRefusal path end)
+    ⊎ (((sources : List Source_file) × (err : TypeErr) × (other : TypeErr) × AlikeTypes err other × (status ≡ types_status sources err) × (end ≡ types_status sources other))
+    ⊎ (((sources : List Source_file) × (err : Misfit) × (other : Misfit) × (status ≡ sizes_status sources err) × (end ≡ sizes_status sources other))
+    ⊎ ((sources : List Source_file) × (err : Misuse) × (other : Misuse) × (status ≡ unique_status sources err) × (end ≡ unique_status sources other))))
 
 abbrev pub Agrees : Status → Result Ending Status → Type 0
 Agrees status (Ok Told) = status ≡ Done

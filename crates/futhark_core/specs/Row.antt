@@ -23,12 +23,14 @@ use Rattle.unfolded_runs.specs.Results.{components_of}
 use Rattle.command_words.specs.CommandLine.{Command, command_of}
 use Rattle.command_words.specs.declared.words.Action.{Action}
 use Rattle.command_words.specs.declared.words.Action.TheVariants.{Run, Check}
+use Rattle.front.specs.declared.refusals.NameErr.TheVariants as names
 use Rattle.futhark_status.specs.declared.status.EntryErr.{EntryErr}
 use Rattle.futhark_status.specs.declared.status.LimitKind.TheVariants as limit
 use Rattle.futhark_status.specs.declared.status.Why.{Why}
 use Rattle.futhark_status.specs.declared.status.Why.TheVariants as why
 use Rattle.futhark_status.specs.declared.status.Status.{Status}
 use Rattle.futhark_status.specs.declared.status.Status.TheVariants.{Done, Usage, LoadFault, Text, Names, Types, Sizes, Unique, Entry, Limit, ReadFault, Input, Failure, Turns, WriteFault, Memory}
+use Rattle.elab_scopes.specs.Imports.{item, path_of}
 use Rattle.futhark_core.specs.Acceptance.{Source, AcceptedFile, UnacceptedFile}
 use Rattle.futhark_core.specs.Entering.{NotEntered}
 use Rattle.futhark_core.specs.Meaning.{Entered, IsEntered, Allows, Alone, Answers, tops_of}
@@ -50,25 +52,35 @@ pub record UsageRow (words : List (List ℕ)) (old new : Outside) (word : ℕ) :
   pub command : command_of words ≡ Err word
   pub quiet : new ≡ old
 
--- the source was not accepted, before anything else was touched
+-- the source was not accepted, because of what stands in the file at this path, before anything else was touched
 pub record FrontRow (reason : Why) (words : List (List ℕ)) (old new : Outside) (path : List ℕ) : Type 0 where
   pub asked : Command
   pub command : command_of words ≡ Ok asked
-  pub path_is : path ≡ asked.file
-  pub unaccepted : UnacceptedFile path old.loader new.loader reason
+  pub unaccepted : UnacceptedFile asked.file old.loader new.loader path reason
   pub input : new.input ≡ old.input
   pub out : new.out ≡ old.out
 
--- the file has too many bytes, before anything else was touched
+-- a file has too many bytes, before anything else was touched
 pub record FileBytesRow (words : List (List ℕ)) (old new : Outside) : Type 0 where
   pub path : List ℕ
   pub row : FrontRow why.FileBytes words old new path
+
+-- there are too many files, before anything else was touched
+pub record FilesRow (words : List (List ℕ)) (old new : Outside) : Type 0 where
+  pub path : List ℕ
+  pub row : FrontRow why.Files words old new path
 
 -- the source's nodes are nested too deep
 pub record NestingRow (words : List (List ℕ)) (old new : Outside) : Type 0 where
   pub path : List ℕ
   pub place : Place
   pub row : FrontRow (why.Parse (parse.TooDeep place)) words old new path
+
+-- parametric modules are applied too often
+pub record ApplicationsRow (words : List (List ℕ)) (old new : Outside) : Type 0 where
+  pub path : List ℕ
+  pub place : Place
+  pub row : FrontRow (why.Names (names.TooManyApplications place)) words old new path
 
 abbrev pub LoadRow : Why → List (List ℕ) → Outside → Outside → List ℕ → Type 0
 LoadRow why.Load words old new path = FrontRow why.Load words old new path
@@ -82,6 +94,8 @@ TextRow (why.NotBuilt place) words old new path = FrontRow (why.NotBuilt place) 
 TextRow reason words old new path = ⊥
 
 abbrev pub NamesRow : Why → List (List ℕ) → Outside → Outside → List ℕ → Type 0
+NamesRow (why.Names (names.TooManyApplications place)) words old new path = ⊥
+NamesRow why.ImportCycle words old new path = FrontRow why.ImportCycle words old new path
 NamesRow (why.Names err) words old new path = FrontRow (why.Names err) words old new path
 NamesRow reason words old new path = ⊥
 
@@ -184,9 +198,9 @@ pub record WriteFaultRow (asked : Command) (source : Source) (old new : Streams)
   pub comes : ComesTo asked source old.input new.input (Gives result)
   pub out : TookPart old.out new.out (data_output (each_met comes.entered.results (components_of comes.entered.tuple result)))
 
--- the files allow this failure, in the named file or the prelude
+-- the files allow this failure, in the file at this path
 pub record FailureRow (asked : Command) (source : Source) (old new : Streams) (report : Report) (path : List ℕ) : Type 0 where
-  pub path_is : path ≡ asked.file
+  pub path_is : path ≡ path_of (item source.files report.place.file)
   pub comes : ComesTo asked source old.input new.input (Fails report)
   pub out : new.out ≡ old.out
 
@@ -264,10 +278,13 @@ pub record MemoryRow (words : List (List ℕ)) (old new : Outside) : Type 0 wher
 abbrev pub status_for : Why → List ℕ → Status
 status_for why.Load path = LoadFault (record { why = why.Load; path = path })
 status_for why.FileBytes path = Limit limit.FileBytes
+status_for why.Files path = Limit limit.Files
+status_for why.ImportCycle path = Names (record { why = why.ImportCycle; path = path })
 status_for (why.Lex err) path = Text (record { why = why.Lex err; path = path })
 status_for (why.Parse (parse.TooDeep place)) path = Limit limit.Nesting
 status_for (why.Parse err) path = Text (record { why = why.Parse err; path = path })
 status_for (why.NotBuilt place) path = Text (record { why = why.NotBuilt place; path = path })
+status_for (why.Names (names.TooManyApplications place)) path = Limit limit.Applications
 status_for (why.Names err) path = Names (record { why = why.Names err; path = path })
 status_for (why.Types err) path = Types (record { why = why.Types err; path = path })
 status_for (why.Sizes err) path = Sizes (record { why = why.Sizes err; path = path })
@@ -284,6 +301,8 @@ RunRow (Types refused) words old new = TypesRow refused.why words old new refuse
 RunRow (Sizes refused) words old new = SizesRow refused.why words old new refused.path
 RunRow (Unique refused) words old new = UniqueRow refused.why words old new refused.path
 RunRow (Limit limit.FileBytes) words old new = FileBytesRow words old new
+RunRow (Limit limit.Files) words old new = FilesRow words old new
 RunRow (Limit limit.Nesting) words old new = NestingRow words old new
+RunRow (Limit limit.Applications) words old new = ApplicationsRow words old new
 RunRow Memory words old new = MemoryRow words old new
 RunRow status words old new = ProgramEnded status words old new

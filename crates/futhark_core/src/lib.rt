@@ -4,7 +4,6 @@
 #![tactic(auto)]
 
 mod entries;
-mod file;
 mod program;
 mod run;
 mod statuses;

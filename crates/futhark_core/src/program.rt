@@ -10,6 +10,7 @@ ghost use Rattle.sized_programs.specs.Sizings.{Has_sizing};
 ghost use Rattle.sizing_tables.specs.Claims.{Is_resolved};
 ghost use Rattle.type_infer.specs.Inferring.{Told_by};
 ghost use Rattle.elab_scopes.specs.Elaboration.{Elaborates};
+ghost use Rattle.module_state.specs.Written.{files_of};
 ghost use Rattle.futhark_core.specs.Acceptance.{Source as TheSource};
 ghost use Rattle.futhark_core.specs.Meaning.{Entered};
 ghost use Rattle.futhark_core.specs.Private.Finding.{Is_found};
@@ -21,7 +22,7 @@ use crate::statuses::{failed_status, input_status};
 use crate::values::{print_result, read_data};
 use bumpalo::Bump;
 use command_words::{Action, Command};
-use front::SizedProgram;
+use front::{SizedProgram, SourceFile};
 use fut_blocks::Program;
 use fut_eval::eval;
 use fut_io::{ReadErr, Sink, Source, read_all, write_all};
@@ -39,15 +40,14 @@ fn run_ready<S: Source, K: Sink>(
     command: &Command<'_>,
     program: &Program<'_>,
     entry: &Entry,
-    path: Name,
+    files: &[SourceFile<'_>],
     input: &mut S,
     out: &mut K,
 ) -> Status
-    requires path { path ≡ command.now.file.now }
     requires rising { Rising program.now }
     requires wanted { Are_wanted entry.now.ty.params entry.now.wanted }
     requires never_wrong { Never_wrong_for entry.now.ty.params command.now.turns program.now }
-    ensures { (source : TheSource) (e : Entered) → e.params ≡ entry.now.ty.params → e.wanted ≡ entry.now.wanted → e.tuple ≡ entry.now.ty.tuple → e.results ≡ entry.now.ty.results → IsReady (command_in command.now) source e → Runs_for source e command.now.turns program.now → ProgramRow result (command_in command.now) source
+    ensures { (source : TheSource) (e : Entered) → source.files ≡ files_of files.now → e.params ≡ entry.now.ty.params → e.wanted ≡ entry.now.wanted → e.tuple ≡ entry.now.ty.tuple → e.results ≡ entry.now.ty.results → IsReady (command_in command.now) source e → Runs_for source e command.now.turns program.now → ProgramRow result (command_in command.now) source
         (record { input = S.seen input.old; out = K.seen out.old })
         (record { input = S.seen input.new; out = K.seen out.new }) }
 {
@@ -65,7 +65,7 @@ fn run_ready<S: Source, K: Sink>(
     };
     let results = match eval(alloc, program, arguments.as_slice(), command.turns) {
         Ok(results) => results,
-        Err(err) => return failed_status(err, path),
+        Err(err) => return failed_status(alloc, err, files),
     };
     let Ok(text) = print_result(
         alloc,
@@ -103,22 +103,21 @@ fn run_entered<'a, S: Source, K: Sink>(
     command: &Command<'_>,
     program: &SizedProgram<'a>,
     entry: &Entry,
-    path: Name,
+    files: &[SourceFile<'_>],
     input: &mut S,
     out: &mut K,
 ) -> Status
-    requires path { path ≡ command.now.file.now }
     requires known { Is_known program.now.accepted.now }
     requires sized { Told_by (Has_sizing (typing_of program.now.accepted.now.flat) program.now.sizing.now) program.now.accepted.now.inference }
     requires resolved { Is_resolved program.now.accepted.now.flat }
     requires found { Is_found program.now.accepted.now program.now.sizing.now command.now.entry.now entry.now }
-    ensures { (source : TheSource) → source.flat ≡ program.now.accepted.now.flat → Elaborates source.files (Ok (flat_of source.flat)) → ProgramRow result (command_in command.now) source
+    ensures { (source : TheSource) → source.files ≡ files_of files.now → source.flat ≡ program.now.accepted.now.flat → Elaborates source.files (Ok (flat_of source.flat)) → ProgramRow result (command_in command.now) source
         (record { input = S.seen input.old; out = K.seen out.old })
         (record { input = S.seen input.new; out = K.seen out.new }) }
 {
     let params = entry.ty.params.as_slice();
     match prepare(alloc, bump, program, entry.number, params) {
-        Ok(program) => run_ready(alloc, command, &program, entry, path, input, out),
+        Ok(program) => run_ready(alloc, command, &program, entry, files, input, out),
         Err(err) => unprepared(err),
     }
 }
@@ -139,20 +138,19 @@ fn run_program<'a, S: Source, K: Sink>(
     bump: &'a Bump,
     command: &Command<'_>,
     program: &SizedProgram<'a>,
-    path: Name,
+    files: &[SourceFile<'_>],
     input: &mut S,
     out: &mut K,
 ) -> Status
-    requires path { path ≡ command.now.file.now }
     requires known { Is_known program.now.accepted.now }
     requires sized { Told_by (Has_sizing (typing_of program.now.accepted.now.flat) program.now.sizing.now) program.now.accepted.now.inference }
     requires resolved { Is_resolved program.now.accepted.now.flat }
-    ensures { (source : TheSource) → source.flat ≡ program.now.accepted.now.flat → Elaborates source.files (Ok (flat_of source.flat)) → ProgramRow result (command_in command.now) source
+    ensures { (source : TheSource) → source.files ≡ files_of files.now → source.flat ≡ program.now.accepted.now.flat → Elaborates source.files (Ok (flat_of source.flat)) → ProgramRow result (command_in command.now) source
         (record { input = S.seen input.old; out = K.seen out.old })
         (record { input = S.seen input.new; out = K.seen out.new }) }
 {
     match find_entry(alloc, bump, program, command.entry) {
-        Ok(entry) => run_entered(alloc, bump, command, program, &entry, path, input, out),
+        Ok(entry) => run_entered(alloc, bump, command, program, &entry, files, input, out),
         Err(FindErr::Entry(err)) => unentered(alloc, err, command.entry),
         Err(FindErr::Memory) => Status::Memory,
     }
@@ -177,20 +175,19 @@ pub fn act<'a, S: Source, K: Sink>(
     bump: &'a Bump,
     command: &Command<'_>,
     program: &SizedProgram<'a>,
-    path: Name,
+    files: &[SourceFile<'_>],
     input: &mut S,
     out: &mut K,
 ) -> Status
-    requires path { path ≡ command.now.file.now }
     requires known { Is_known program.now.accepted.now }
     requires sized { Told_by (Has_sizing (typing_of program.now.accepted.now.flat) program.now.sizing.now) program.now.accepted.now.inference }
     requires resolved { Is_resolved program.now.accepted.now.flat }
-    ensures { (source : TheSource) → source.flat ≡ program.now.accepted.now.flat → Elaborates source.files (Ok (flat_of source.flat)) → ActionRow command.now.action result (command_in command.now) source
+    ensures { (source : TheSource) → source.files ≡ files_of files.now → source.flat ≡ program.now.accepted.now.flat → Elaborates source.files (Ok (flat_of source.flat)) → ActionRow command.now.action result (command_in command.now) source
         (record { input = S.seen input.old; out = K.seen out.old })
         (record { input = S.seen input.new; out = K.seen out.new }) }
 {
     match command.action {
-        Action::Run => run_program(alloc, bump, command, program, path, input, out),
+        Action::Run => run_program(alloc, bump, command, program, files, input, out),
         Action::Check => tell_accepted(&*input, out),
     }
 }

@@ -2,19 +2,17 @@
 ghost use Rattle.std.specs.Prelude.{◌≡◌};
 ghost use Rattle.command_words.specs.Held.{command_in};
 ghost use Rattle.futhark_core.specs.Comes.{Complete};
-ghost use Rattle.futhark_core.specs.Private.Stages.{TokensRow};
+ghost use Rattle.futhark_core.specs.Private.Stages.{SourceRow};
 ghost use Rattle.futhark_core.specs.Row.{RunRow};
 ghost use Rattle.futhark_status.specs.Report.{Reported};
 
-use crate::file::read_file;
 use crate::program::act;
-use crate::statuses::{status_of, why_of};
+use crate::statuses::refused_status;
 use bumpalo::Bump;
 use command_words::{Command, read_words};
 use front::{accept, read_prelude};
 use fut_io::{Loader, Sink, Source};
 use fut_scalar::{List, Name};
-use fut_token::Token;
 use futhark_status::{Status, report};
 use std::alloc::Global;
 
@@ -22,28 +20,26 @@ use std::alloc::Global;
 /// is this limit that ends a run before the machine has no memory left.
 const MOST_BYTES: usize = 2_147_483_648;
 
-/// What is done with the source that tokens spell. Its trees stand in memory until then.
-fn run_tokens<S: Source, K: Sink>(
+/// What is done with the program that begins with the file of a command. Its trees stand in memory until then.
+fn run_source<L: Loader, S: Source, K: Sink>(
     alloc: Global,
     command: &Command<'_>,
-    path: Name,
-    tokens: &[Token],
+    loader: &mut L,
     input: &mut S,
     out: &mut K,
 ) -> Status
-    requires path { path ≡ command.now.file.now }
-    ensures { TokensRow (command_in command.now) result tokens.now
-        (record { input = S.seen input.old; out = K.seen out.old })
-        (record { input = S.seen input.new; out = K.seen out.new }) }
+    ensures { SourceRow (command_in command.now) result
+        (record { loader = L.seen loader.old; input = S.seen input.old; out = K.seen out.old })
+        (record { loader = L.seen loader.new; input = S.seen input.new; out = K.seen out.new }) }
 {
     let Ok(prelude) = read_prelude(alloc) else {
         return Status::Memory;
     };
     let bump = Bump::new(alloc);
     bump.set_allocation_limit(Some(MOST_BYTES));
-    match accept(alloc, &bump, &prelude, command.file, tokens) {
-        Ok(program) => act(alloc, &bump, command, &program, path, input, out),
-        Err(refused) => status_of(why_of(refused), path),
+    match accept(alloc, &bump, &prelude, loader, command.file) {
+        Ok(it) => act(alloc, &bump, command, &it.program, it.files, input, out),
+        Err(refused) => refused_status(refused),
     }
 }
 
@@ -63,13 +59,7 @@ fn run_stages<L: Loader, S: Source, K: Sink>(
         Ok(command) => command,
         Err(word) => return Status::Usage { word },
     };
-    let Ok(path) = Name::new(alloc, command.file) else {
-        return Status::Memory;
-    };
-    match read_file(alloc, loader, command.file) {
-        Ok(tokens) => run_tokens(alloc, &command, path, tokens.as_slice(), input, out),
-        Err(why) => status_of(why, path),
-    }
+    run_source(alloc, &command, loader, input, out)
 }
 
 /// The run, but for its line on err.

@@ -114,6 +114,8 @@ abbrev pub names_line : NameErr → List ℕ → Line
 names_line (names.Unbound name place) path = Placed path place [] name (codes " is not bound")
 names_line (names.Twice name place) path = Placed path place [] name (codes " is bound twice")
 names_line (names.NoMember name place) path = Placed path place (codes "no member ") name []
+names_line (names.SealMissing name place) path = Placed path place (codes "the seal lacks ") name []
+names_line (names.TooManyApplications place) path = Nothing
 
 abbrev pub types_line : TypeErr → List ℕ → Line
 types_line (types.NoType place) path = at_place path place (codes "no type")
@@ -145,11 +147,13 @@ why_line why.Load path = Named (codes "cannot load ") path []
 why_line (why.Lex err) path = lex_line err path
 why_line (why.Parse err) path = parse_line err path
 why_line (why.NotBuilt place) path = at_place path place (codes "not built yet")
+why_line why.ImportCycle path = Named [] path (codes " imports itself")
 why_line (why.Names err) path = names_line err path
 why_line (why.Types err) path = types_line err path
 why_line (why.Sizes err) path = misfit_line err path
 why_line (why.Unique err) path = misuse_line err path
 why_line why.FileBytes path = Nothing
+why_line why.Files path = Nothing
 why_line why.Memory path = Nothing
 
 abbrev pub entry_line : EntryErr → List ℕ → Line
@@ -158,7 +162,9 @@ entry_line entry.OutsideProfile name = Named (codes "entry ") name (codes " is o
 
 abbrev pub limit_line : LimitKind → Line
 limit_line limit.FileBytes = Said (codes "limit: file bytes over 4194304")
+limit_line limit.Files = Said (codes "limit: files over 256")
 limit_line limit.Nesting = Said (codes "limit: nesting over 200")
+limit_line limit.Applications = Said (codes "limit: module applications over 1024")
 limit_line limit.Nodes = Said (codes "limit: unfolded nodes over 1048576")
 limit_line limit.Depth = Said (codes "limit: unfolded depth over 1000")
 limit_line limit.InputBytes = Said (codes "limit: input bytes over 67108864")

@@ -71,6 +71,10 @@ fn names_line<'a>(reason: &'a NameErr, path: &'a [u8]) -> Line<'a>
         NameErr::NoMember { name, at } => {
             Line::Placed(path, *at, b"no member ", name.as_str().as_bytes(), b"")
         }
+        NameErr::SealMissing { name, at } => {
+            Line::Placed(path, *at, b"the seal lacks ", name.as_str().as_bytes(), b"")
+        }
+        NameErr::TooManyApplications { at: _ } => Line::Nothing,
     }
 }
 
@@ -155,11 +159,13 @@ fn why_line(refused: &Refused) -> Line<'_>
         Why::Lex(reason) => lex_line(*reason, path),
         Why::Parse(reason) => parse_line(reason, path),
         Why::NotBuilt { at } => Line::Placed(path, *at, b"not built yet", b"", b""),
+        Why::ImportCycle => Line::Named(b"", path, b" imports itself"),
         Why::Names(reason) => names_line(reason, path),
         Why::Types(reason) => types_line(*reason, path),
         Why::Sizes(reason) => misfit_line(reason, path),
         Why::Unique(reason) => misuse_line(reason, path),
         Why::FileBytes => Line::Nothing,
+        Why::Files => Line::Nothing,
         Why::Memory => Line::Nothing,
     }
 }
@@ -179,7 +185,9 @@ fn limit_line(what: LimitKind) -> Line<'static>
 {
     match what {
         LimitKind::FileBytes => Line::Said(b"limit: file bytes over 4194304"),
+        LimitKind::Files => Line::Said(b"limit: files over 256"),
         LimitKind::Nesting => Line::Said(b"limit: nesting over 200"),
+        LimitKind::Applications => Line::Said(b"limit: module applications over 1024"),
         LimitKind::Nodes => Line::Said(b"limit: unfolded nodes over 1048576"),
         LimitKind::Depth => Line::Said(b"limit: unfolded depth over 1000"),
         LimitKind::InputBytes => Line::Said(b"limit: input bytes over 67108864"),

@@ -16,6 +16,8 @@ pub enum Why {
     Parse(ParseErr),
     /// At this token the text leaves the part of the language that is built.
     NotBuilt { at: Place },
+    /// The file imports itself, perhaps through others.
+    ImportCycle,
     Names(NameErr),
     Types(TypeErr),
     /// The program has no sizing.
@@ -24,6 +26,8 @@ pub enum Why {
     Unique(Misuse),
     /// The file has more than 4,194,304 bytes.
     FileBytes,
+    /// There are 256 files before it.
+    Files,
     Memory,
 }
 
@@ -47,8 +51,12 @@ pub enum EntryErr {
 #[derive(Clone, Copy, Debug, PartialEq, Eq)]
 pub enum LimitKind {
     FileBytes,
+    /// Of a program, the prelude not counted.
+    Files,
     /// Of the nodes of a source text in one another.
     Nesting,
+    /// Of parametric modules.
+    Applications,
     /// Of the program with its functions unfolded, and of these nodes in one another.
     Nodes,
     Depth,
@@ -73,7 +81,7 @@ pub enum Status {
     Limit { what: LimitKind },
     ReadFault,
     Input(TextErr),
-    /// The program failed; the path is that of its file.
+    /// The program failed; the path is that of the file in which it did.
     Failure(Report, Name),
     /// A `while` has spent its turns.
     Turns(Report, Name),

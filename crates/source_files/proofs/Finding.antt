@@ -1,31 +1,15 @@
 -- Whether a file is among others, and the next path at which none is.
-use Rattle.std.proofs.Common.{◌≡◌, ℕ, zero, suc, ◌+◌, ◌<◌, ◌≤◌, drop, length, get_or, slice_index_or, Bool, true, false, cond, List, [], ◌∷◌, ◌++◌, reverse, Option, Some, None, is_some, refl, sym, ap, ◌∙◌, subst}
+use Rattle.std.proofs.Common.{◌≡◌, ℕ, zero, suc, ◌+◌, ◌<◌, ◌≤◌, drop, length, get_or, slice_index_or, true, false, cond, List, [], ◌∷◌, ◌++◌, reverse, Option, Some, None, is_some, refl, sym, ap, ◌∙◌, subst, arith}
 use Rattle.std.specs.Borrow.{Bor}
 use Rattle.std.specs.Str.{bytes_eq}
-use Rattle.std.proofs.lemmas.List.{at_drop_all, drop_more, map-append, reverse-append}
+use Rattle.std.proofs.lemmas.List.{drop_more, map-append, reverse-append}
+use Rattle.std.proofs.Math.ListN.{drop_of_length-le}
 use Rattle.fut_ast.specs.Sorts.{Text}
 use Rattle.fut_tree.specs.Names.{names}
-use Rattle.elab_scopes.specs.Imports.{Source_file, file_number, one_later}
+use Rattle.elab_scopes.specs.Imports.{Source_file, file_number, item, one_later, path_of}
 use Rattle.module_state.specs.Written.{file_of, files_of}
 use Rattle.module_state.specs.declared.written.SourceFile.{SourceFile}
-use Rattle.source_files.specs.Reading.{Is_left, Reading, at_first, is_known, is_read}
-
-still : (o : Option ℕ) → is_some (one_later o) ≡ is_some o
-still None = refl
-still (Some k) = refl
-
--- a file with another path, and one with this path
-pub passed : (f : Source_file) (fs : List Source_file) (p : Text) → bytes_eq f.path p ≡ false → is_some (file_number (f ∷ fs) p) ≡ is_some (file_number fs p)
-unfolding file_number
-passed f fs p e = ap (λ b. is_some (cond b (Some 0) (one_later (file_number fs p)))) e ∙ still (file_number fs p)
-
-pub found : (f : Source_file) (fs : List Source_file) (p : Text) → bytes_eq f.path p ≡ true → is_some (file_number (f ∷ fs) p) ≡ true
-unfolding file_number
-found f fs p e = ap (λ b. is_some (cond b (Some 0) (one_later (file_number fs p)))) e
-
-pub in_none : (p : Text) → is_some (file_number [] p) ≡ false
-unfolding file_number
-in_none p = refl
+use Rattle.source_files.specs.Reading.{Is_left, Reading, is_known}
 
 same_at : {A : Type 0} (xs : List A) (i : ℕ) (d : A) → get_or xs i d ≡ slice_index_or xs i d
 same_at [] i d = refl
@@ -35,15 +19,54 @@ same_at (x ∷ xs) (suc i) d = same_at xs i d
 pub from_index : {A : Type 0} (xs : List A) (i : ℕ) (d : A) → i < length xs → drop i xs ≡ slice_index_or xs i d ∷ drop (i + 1) xs
 from_index xs i d lt = drop_more xs i d lt ∙ ap (λ y. y ∷ drop (i + 1) xs) (same_at xs i d)
 
--- the files from one on, which has another path, or this one; and behind all
-pub known_more : (fs : List SourceFile) (p : Text) (i : ℕ) (d : SourceFile) (whole : Bool) → i < length fs → bytes_eq (slice_index_or fs i d).path.now p ≡ false → is_some (file_number (files_of (drop i fs)) p) ≡ whole → is_some (file_number (files_of (drop (i + 1) fs)) p) ≡ whole
-known_more fs p i d whole lt e h = sym (passed (file_of (slice_index_or fs i d)) (files_of (drop (i + 1) fs)) p e) ∙ sym (ap (λ l. is_some (file_number (files_of l) p)) (from_index fs i d lt)) ∙ h
+-- ---- a file by its number
 
-pub known_here : (fs : List SourceFile) (p : Text) (i : ℕ) (d : SourceFile) (whole : Bool) → i < length fs → bytes_eq (slice_index_or fs i d).path.now p ≡ true → is_some (file_number (files_of (drop i fs)) p) ≡ whole → true ≡ whole
-known_here fs p i d whole lt e h = sym (found (file_of (slice_index_or fs i d)) (files_of (drop (i + 1) fs)) p e) ∙ sym (ap (λ l. is_some (file_number (files_of l) p)) (from_index fs i d lt)) ∙ h
+pub file_there : (fs : List SourceFile) (k : ℕ) (d : SourceFile) → k < length fs → item (files_of fs) k ≡ Some (file_of (slice_index_or fs k d))
+unfolding item
+file_there [] k d lt = absurd (omega (arith, lt))
+file_there (f ∷ fs) zero d lt = refl
+file_there (f ∷ fs) (suc k) d lt = file_there fs k d (omega (arith, lt))
 
-pub known_nowhere : (fs : List SourceFile) (p : Text) (i : ℕ) (whole : Bool) → length fs ≤ i → is_some (file_number (files_of (drop i fs)) p) ≡ whole → false ≡ whole
-known_nowhere fs p i whole le h = sym (in_none p) ∙ sym (at_drop_all (λ (l : List SourceFile). is_some (file_number (files_of l) p)) fs i le) ∙ h
+pub path_there : (fs : List SourceFile) (k : ℕ) (d : SourceFile) → k < length fs → (slice_index_or fs k d).path.now ≡ path_of (item (files_of fs) k)
+path_there fs k d lt = sym (ap path_of (file_there fs k d lt))
+
+pub path_past : (fs : List SourceFile) (k : ℕ) → length fs ≤ k → [] ≡ path_of (item (files_of fs) k)
+unfolding item
+path_past [] k le = refl
+path_past (f ∷ fs) zero le = absurd (omega (arith, le))
+path_past (f ∷ fs) (suc k) le = path_past fs k (omega (arith, le))
+
+pub ruleset paths = (path_there, path_past)
+
+-- ---- a number by its path
+
+-- a number so many files later
+abbrev pub later : ℕ → Option ℕ → Option ℕ
+later n None = None
+later n (Some k) = Some (n + k)
+
+later_one : (n : ℕ) (o : Option ℕ) → later n (one_later o) ≡ later (n + 1) o
+later_one n None = refl
+later_one n (Some k) = ap Some (omega arith)
+
+module _ (fs : List SourceFile) (x : Text) where
+  pub search_starts : (o : Option ℕ) → later 0 o ≡ o
+  search_starts None = refl
+  search_starts (Some k) = ap Some (omega arith)
+
+  one_file : (i : ℕ) (d : SourceFile) → i < length fs → file_number (files_of (drop i fs)) x ≡ cond (bytes_eq (slice_index_or fs i d).path.now x) (Some 0) (one_later (file_number (files_of (drop (i + 1) fs)) x))
+  unfolding file_number
+  one_file i d lt = ap (λ l. file_number (files_of l) x) (from_index fs i d lt)
+
+  pub other_file : (i : ℕ) (d : SourceFile) → i < length fs → bytes_eq (slice_index_or fs i d).path.now x ≡ false → file_number (files_of fs) x ≡ later i (file_number (files_of (drop i fs)) x) → file_number (files_of fs) x ≡ later (i + 1) (file_number (files_of (drop (i + 1) fs)) x)
+  other_file i d lt differs so = so ∙ ap (later i) (one_file i d lt ∙ ap (λ t. cond t (Some 0) (one_later (file_number (files_of (drop (i + 1) fs)) x))) differs) ∙ later_one i (file_number (files_of (drop (i + 1) fs)) x)
+
+  pub found_file : (i : ℕ) (d : SourceFile) → i < length fs → bytes_eq (slice_index_or fs i d).path.now x ≡ true → file_number (files_of fs) x ≡ later i (file_number (files_of (drop i fs)) x) → Some i ≡ file_number (files_of fs) x
+  found_file i d lt same so = sym (so ∙ ap (later i) (one_file i d lt ∙ ap (λ t. cond t (Some 0) (one_later (file_number (files_of (drop (i + 1) fs)) x))) same) ∙ ap Some (omega arith))
+
+  pub no_file : (i : ℕ) → length fs ≤ i → file_number (files_of fs) x ≡ later i (file_number (files_of (drop i fs)) x) → None ≡ file_number (files_of fs) x
+  unfolding file_number
+  no_file i le so = sym (so ∙ ap (λ l. later i (file_number (files_of l) x)) (drop_of_length-le fs le))
 
 pub known_number : (o : Option ℕ) → is_some o ≡ true → (k : ℕ) × (o ≡ Some k)
 known_number None e = absurd (let z : false ≡ true = e in cc)

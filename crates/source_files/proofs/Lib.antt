@@ -1,3 +1,5 @@
-mod Finding
-mod Putting
+pub mod Finding
+pub mod Putting
 mod Steps
+mod Closed
+pub mod One

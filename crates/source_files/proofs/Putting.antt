@@ -1,7 +1,7 @@
 -- Paths put before others, the last one first, and a file put behind others.
-use Rattle.std.proofs.Common.{◌≡◌, ℕ, zero, suc, get_or, ◌+◌, ◌<◌, ◌≤◌, List, [], ◌∷◌, ◌++◌, map, flat_map, length, drop, reverse, slice_index_or, Result, Ok, Err, OnOk, refl, sym, ap, ◌∙◌, arith}
+use Rattle.std.proofs.Common.{◌≡◌, ℕ, ◌+◌, ◌≤◌, List, [], ◌∷◌, ◌++◌, map, flat_map, length, drop, reverse, slice_index_or, Result, Ok, Err, OnOk, refl, sym, ap, ◌∙◌, arith}
 use Rattle.std.specs.Borrow.{Bor}
-use Rattle.std.proofs.lemmas.List.{drop_more, map-append}
+use Rattle.std.proofs.lemmas.List.{map-append}
 use Rattle.std.proofs.lemmas.Result.{on_ok_weaker}
 use Rattle.std.proofs.Math.ListN.{drop_of_length-le}
 use Rattle.fut_ast.specs.Sorts.{Text}
@@ -30,7 +30,7 @@ one_put from ts left less d all more old one le e is = is ∙ ap (λ l. imported
 
 pub ruleset puts = (all_left, one_put)
 
-texts_are : (ds : List Dec) → decs_texts ds ≡ flat_map imported_texts ds
+pub texts_are : (ds : List Dec) → decs_texts ds ≡ flat_map imported_texts ds
 texts_are [] = refl
 texts_are (d ∷ ds) = ap (λ l. imported_texts d ++ l) (texts_are ds)
 

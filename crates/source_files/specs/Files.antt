@@ -1,5 +1,5 @@
 -- What a file is that is read, and why one is not.
-use Rattle.std.specs.Prelude.{◌≡◌, ◌≤◌, ◌<◌, ◌++◌, ℕ, suc, List, [], ◌∷◌, length, true}
+use Rattle.std.specs.Prelude.{◌≡◌, ◌≤◌, ◌<◌, ◌⊎◌, ◌++◌, ℕ, suc, List, [], ◌∷◌, length, true, None, Some}
 use Rattle.fut_scalar.specs.declared.place.Place.{Place}
 use Rattle.fut_token.specs.declared.token.Token.{Token}
 use Rattle.fut_ast.specs.Sorts.{Text}
@@ -14,7 +14,8 @@ use Rattle.fut_parser.specs.Places.{Ends, place_of}
 use Rattle.fut_parser.specs.declared.programs.ParseErr.{ParseErr}
 use Rattle.fut_parser.specs.declared.programs.ParseErr.TheVariants as parse
 use Rattle.elab_scopes.specs.Imports.{Source_file}
-use Rattle.source_files.specs.Reading.{Is_next, imported_paths}
+use Rattle.unbuilt_tokens.specs.Unbuilt.{first_unbuilt}
+use Rattle.source_files.specs.Reading.{All_read, Is_next, imported_paths}
 use Rattle.source_files.specs.declared.reading.Unread.{Unread}
 use Rattle.source_files.specs.declared.reading.Unread.TheVariants as unread
 
@@ -25,18 +26,26 @@ pub record Spells (tokens : List Token) (program : Program) : Type 0 where
   pub nested : height ≤ 201
   pub only : (other : Program) (h : ℕ) → Derives tokens other h → other ≡ program
 
--- where the loader tells this, the file has a text with tokens that spell its program; places in it have this number
+-- where the loader tells this, the file has a text with tokens that spell its program, none of which is of a form that is not built;
+-- places in it have this number
 pub record Is_file (seen : LoaderSeen) (number : ℕ) (file : Source_file) : Type 0 where
   pub text : List ℕ
   pub loaded : Loaded seen seen file.path text
   pub tokens : List Token
   pub lexed : HasTokens number text tokens
   pub spelled : Spells tokens file.program
+  pub built : first_unbuilt tokens ≡ None
 
 -- they are all files, and the places in each have its number, from this one on
 pub data Are_files (seen : LoaderSeen) : ℕ → List Source_file → Type 0 where
   no_more : {n : ℕ} → Are_files seen n []
   one_more : {n : ℕ} {f : Source_file} {fs : List Source_file} → Is_file seen n f → Are_files seen (suc n) fs → Are_files seen n (f ∷ fs)
+
+-- the files of the program that begins with the file at this path: 256 at most
+pub record Are_read (seen : LoaderSeen) (file : Text) (fs : List Source_file) : Type 0 where
+  pub read : All_read file fs
+  pub files : Are_files seen 1 fs
+  pub few : length fs ≤ 256
 
 -- this is the place of one of the tokens, or of the last one, and of the tokens from there on this holds
 abbrev pub Stands_at : ℕ → List Token → Place → (List Token → Type 0) → Type 0
@@ -64,6 +73,12 @@ abbrev pub Misspells : ℕ → List Token → ParseErr → Type 0
 Misspells number tokens parse.Memory = Unit {0}
 Misspells number tokens err = Unspelled number tokens err
 
+-- they spell a program, in which at this place a token of a form stands that is not built, and none before
+pub record Is_unbuilt (tokens : List Token) (at : Place) : Type 0 where
+  pub program : Program
+  pub spelled : Spells tokens program
+  pub unbuilt : first_unbuilt tokens ≡ Some at
+
 -- the file at this path has a text, with tokens where it has some
 pub record Has_text (old new : LoaderSeen) (path : Text) (Holds : List ℕ → Type 0) : Type 0 where
   pub text : List ℕ
@@ -71,15 +86,27 @@ pub record Has_text (old new : LoaderSeen) (path : Text) (Holds : List ℕ → T
   pub holds : Holds text
 
 -- Why the file at this path is not read, which would be the file of this number: a load fails, its text is too long, has no tokens,
--- or they spell no program; or there are 256 files before it.
+-- or they spell no program, or one with a form that is not built; or there are 256 files before it.
 abbrev pub Is_unread : LoaderSeen → LoaderSeen → ℕ → Text → Unread → Type 0
 Is_unread old new number path unread.Load = LoadFailed old new path
 Is_unread old new number path unread.TooLong = LoadOver old new path
 Is_unread old new number path (unread.Lex lex.Memory) = ⊥
 Is_unread old new number path (unread.Lex err) = Has_text old new path (λ text. RefusesText number text err)
 Is_unread old new number path (unread.Parse err) = Has_text old new path (λ text. (tokens : List Token) × HasTokens number text tokens × Unspelled number tokens err)
+Is_unread old new number path (unread.NotBuilt at) = Has_text old new path (λ text. (tokens : List Token) × HasTokens number text tokens × Is_unbuilt tokens at)
 Is_unread old new number path unread.TooMany = (number ≡ 257) × (new ≡ old)
 Is_unread old new number path unread.Memory = new ≡ old
+
+-- the file at this path is not read, which a refusal tells of with a path; of want of memory it tells no path
+abbrev pub Is_unread_at : LoaderSeen → LoaderSeen → ℕ → Text → Text → Unread → Type 0
+Is_unread_at old new number path told unread.Memory = new ≡ old
+Is_unread_at old new number path told why = (told ≡ path) × Is_unread old new number path why
+
+-- reading would go on at this path with one file too many, or memory ran out
+abbrev pub Is_one_too_many : Text → Text → Unread → Type 0
+Is_one_too_many path told unread.Memory = Unit {0}
+Is_one_too_many path told unread.TooMany = told ≡ path
+Is_one_too_many path told why = ⊥
 
 -- the file at this path has these tokens
 pub record Lexed (old new : LoaderSeen) (number : ℕ) (path : Text) (tokens : List Token) : Type 0 where
@@ -90,15 +117,23 @@ pub record Lexed (old new : LoaderSeen) (number : ℕ) (path : Text) (tokens : L
 -- memory ran out, or the tokens spell no program for this reason
 abbrev pub Is_unspelled : ℕ → List Token → Unread → Type 0
 Is_unspelled number tokens (unread.Parse err) = Unspelled number tokens err
+Is_unspelled number tokens (unread.NotBuilt at) = Is_unbuilt tokens at
 Is_unspelled number tokens unread.Memory = Unit {0}
 Is_unspelled number tokens why = ⊥
 
--- Reading ends at this path: these files were read before it, it is the next one behind them, and this is why it is not read.
+-- Reading ends at this path: these files were read before it, fewer than 256 unless that is the reason, it is the next one behind
+-- them, and this is why it is not read.
 pub record Stops (file : Text) (old new : LoaderSeen) (path : Text) (why : Unread) : Type 0 where
   pub before : List Source_file
   pub files : Are_files old 1 before
+  pub few : (length before < 256) ⊎ (why ≡ unread.TooMany)
   pub next : Is_next file before path
   pub unread : Is_unread old new (suc (length before)) path why
+
+-- reading ends at this path, or memory ran out
+abbrev pub Ends_reading : Text → LoaderSeen → LoaderSeen → Text → Unread → Type 0
+Ends_reading file old new path unread.Memory = new ≡ old
+Ends_reading file old new path why = Stops file old new path why
 
 -- the file at this path, of this number, is put behind the files, and what it imports before what is still to be looked at
 pub record Goes_on (seen : LoaderSeen) (number : ℕ) (path : Text) (old new : List Source_file) (pending left : List Text) : Type 0 where

@@ -3,10 +3,11 @@ ghost use Rattle.std.specs.Prelude.{◌≡◌, ◌<◌, ◌+◌, [], ◌∷◌, 
 ghost use Rattle.std.specs.Str.{bytes_eq};
 ghost use Rattle.fut_ast.specs.Sorts.{Text};
 ghost use Rattle.fut_tree.specs.Names.{maybe, names};
-ghost use Rattle.elab_scopes.specs.Imports.{file_number, imported_path};
+ghost use Rattle.elab_scopes.specs.Imports.{file_number, imported_path, item, path_of};
 ghost use Rattle.module_state.specs.Written.{file_of, files_of};
-ghost use Rattle.source_files.specs.Files.{Are_files, Goes_on, Is_unread, Stops};
-ghost use Rattle.source_files.specs.Reading.{All_read, Is_left, Reading, imported_paths};
+ghost use Rattle.source_files.specs.Files.{Are_read, Ends_reading, Goes_on, Is_one_too_many, Is_unread_at};
+ghost use Rattle.source_files.specs.declared.reading.Unread.TheVariants as Unread;
+ghost use Rattle.source_files.specs.Reading.{Is_left, Reading, imported_paths};
 
 use crate::reading::{Unread, read_file};
 use bumpalo::Bump;
@@ -14,18 +15,28 @@ use bumpalo::collections::into_bump_slice;
 use file_imports::imports;
 use file_paths::imported_path;
 use fut_io::Loader;
-use fut_scalar::{List, NoMemory};
+use fut_scalar::{List, Name, NoMemory};
 use module_state::SourceFile;
 use std::alloc::Global;
 
 /// How many files a program may have. The prelude is not counted.
 pub const MOST_FILES: usize = 256;
 
-/// Why the files of a program are not read: the path at which reading ended, and the reason.
+/// Why the files of a program are not read: the path at which reading ended, which is empty for want of memory, and the reason.
 #[derive(Debug, Drop)]
-pub struct UnreadFile<'a> {
-    pub path: &'a str,
+pub struct UnreadFile {
+    pub path: Name,
     pub why: Unread,
+}
+
+/// Memory ran out.
+fn out_of_memory(alloc: Global) -> UnreadFile
+    ensures { result.why ≡ Unread.Memory }
+{
+    UnreadFile {
+        path: Name::from_string(String::new(alloc)),
+        why: Unread::Memory,
+    }
 }
 
 /// Whether a file has this path.
@@ -35,18 +46,37 @@ fn has_path(file: SourceFile<'_>, path: &str) -> bool
     file.path == path
 }
 
-/// Whether a file at this path is among the files.
-fn is_known(files: &[SourceFile<'_>], path: &str) -> bool
-    ensures { result ≡ is_some (file_number (files_of files.now) path.now) }
+/// The number of the first file at a path, from 0 on, or none.
+pub fn file_number(files: &[SourceFile<'_>], path: &str) -> Option<usize>
+    ensures { result ≡ file_number (files_of files.now) path.now }
 {
     let mut at = 0;
     while at < files.len() {
         if has_path(files[at], path) {
-            return true;
+            return Some(at);
         }
         at += 1;
     }
-    false
+    None
+}
+
+/// The path of the file with a number, from 0 on; an empty one where there is no such file.
+#[tactic(auto, using(crate::proofs::Finding::paths))]
+pub fn path_at<'a>(files: &[SourceFile<'a>], number: u32) -> &'a str
+    ensures { result.now ≡ path_of (item (files_of files.now) number) }
+{
+    let at = number as usize;
+    if at < files.len() {
+        return files[at].path;
+    }
+    ""
+}
+
+/// Whether a file at this path is among the files.
+fn is_known(files: &[SourceFile<'_>], path: &str) -> bool
+    ensures { result ≡ is_some (file_number (files_of files.now) path.now) }
+{
+    file_number(files, path).is_some()
 }
 
 /// The next path at which no file was read, or none. Paths are taken from the end.
@@ -124,7 +154,8 @@ fn put_file<'a>(
     }
 }
 
-/// Reads the file at a path, which has this number, and puts it behind others.
+/// Reads the file at a path, which has this number, and puts it behind others. The path that a refusal needs is copied before
+/// anything is loaded.
 fn read_next<'a, L: Loader>(
     alloc: Global,
     bump: &'a Bump,
@@ -133,15 +164,34 @@ fn read_next<'a, L: Loader>(
     path: &'a str,
     files: &mut Vec<SourceFile<'a>, &'a Bump>,
     pending: &mut List<&'a str>,
-) -> Result<(), Unread>
+) -> Result<(), UnreadFile>
     ensures ok { OnOk result (Goes_on (L.seen loader.old) number path.now (files_of files.old.items) (files_of files.new.items) (reverse (names pending.old)) (reverse (names pending.new))) }
     ensures same { OnOk result (L.seen loader.new ≡ L.seen loader.old) }
-    ensures err { IfErr result (Is_unread (L.seen loader.old) (L.seen loader.new) number path.now) }
+    ensures err { IfErr result (λ e. Is_unread_at (L.seen loader.old) (L.seen loader.new) number path.now e.path e.why) }
 {
-    let file = read_file(alloc, bump, loader, number, path)?;
+    let Ok(name) = Name::new(alloc, path) else {
+        return Err(out_of_memory(alloc));
+    };
+    let file = match read_file(alloc, bump, loader, number, path) {
+        Ok(file) => file,
+        Err(why) => return Err(UnreadFile { path: name, why }),
+    };
     match put_file(file, bump, files, pending) {
         Ok(()) => Ok(()),
-        Err(NoMemory) => Err(Unread::Memory),
+        Err(NoMemory) => Err(out_of_memory(alloc)),
+    }
+}
+
+/// There are too many files: at this path reading ends.
+fn too_many(alloc: Global, path: &str) -> UnreadFile
+    ensures { Is_one_too_many path.now result.path result.why }
+{
+    match Name::new(alloc, path) {
+        Ok(path) => UnreadFile {
+            path,
+            why: Unread::TooMany,
+        },
+        Err(_) => out_of_memory(alloc),
     }
 }
 
@@ -172,18 +222,14 @@ pub fn read_files<'a, L: Loader>(
     bump: &'a Bump,
     loader: &mut L,
     file: &'a str,
-) -> Result<&'a [SourceFile<'a>], UnreadFile<'a>>
-    ensures read { IfOk result (λ files. All_read file.now (files_of files.now)) }
-    ensures files { IfOk result (λ files. Are_files (L.seen loader.old) 1 (files_of files.now)) }
+) -> Result<&'a [SourceFile<'a>], UnreadFile>
+    ensures read { IfOk result (λ files. Are_read (L.seen loader.old) file.now (files_of files.now)) }
     ensures same { OnOk result (L.seen loader.new ≡ L.seen loader.old) }
-    ensures err { IfErr result (λ e. Stops file.now (L.seen loader.old) (L.seen loader.new) e.path.now e.why) }
+    ensures err { IfErr result (λ e. Ends_reading file.now (L.seen loader.old) (L.seen loader.new) e.path e.why) }
 {
     let mut files = Vec::new(bump);
     let Ok(mut pending) = first_pending(alloc, file) else {
-        return Err(UnreadFile {
-            path: file,
-            why: Unread::Memory,
-        });
+        return Err(out_of_memory(alloc));
     };
     for _ in 0..MOST_FILES {
         let Some(path) = next_unknown(&files, &mut pending) else {
@@ -192,14 +238,11 @@ pub fn read_files<'a, L: Loader>(
         let number = number_behind(&files);
         match read_next(alloc, bump, loader, number, path, &mut files, &mut pending) {
             Ok(()) => (),
-            Err(why) => return Err(UnreadFile { path, why }),
+            Err(unread) => return Err(unread),
         }
     }
     match next_unknown(&files, &mut pending) {
         None => Ok(into_bump_slice(files)),
-        Some(path) => Err(UnreadFile {
-            path,
-            why: Unread::TooMany,
-        }),
+        Some(path) => Err(too_many(alloc, path)),
     }
 }

@@ -5,7 +5,9 @@
 #![tactic(auto)]
 
 mod files;
+mod laws;
 mod reading;
 
-pub use files::{MOST_FILES, UnreadFile, read_files};
+pub use files::{MOST_FILES, UnreadFile, file_number, path_at, read_files};
+pub use laws::{files_are_closed, told_files_are_read_once};
 pub use reading::Unread;

@@ -1,16 +1,19 @@
 // One file, from its path to its tree.
-ghost use Rattle.std.specs.Prelude.{◌≡◌, IfErr, IfOk};
+ghost use Rattle.std.specs.Prelude.{◌≡◌, IfErr, IfOk, None, OnOk};
 ghost use Rattle.module_state.specs.Written.{file_of};
+ghost use Rattle.unbuilt_tokens.specs.Unbuilt.{first_unbuilt};
 ghost use Rattle.source_files.specs.Files.{Is_file, Is_unread, Is_unspelled, Lexed, Misspells, Spells};
 
 use bumpalo::Bump;
 use fut_io::{LoadErr, Loader};
 use fut_lexer::{LexErr, lex};
 use fut_parser::{ParseErr, parse};
+use fut_scalar::Place;
 use fut_token::Token;
 use fut_tree::Program;
 use module_state::SourceFile;
 use std::alloc::Global;
+use unbuilt_tokens::first_unbuilt;
 
 /// Why a file is not read.
 #[derive(Debug, Drop)]
@@ -23,6 +26,8 @@ pub enum Unread {
     Lex(LexErr),
     /// Its tokens are no program.
     Parse(ParseErr),
+    /// At this token it leaves the part of the language that is built.
+    NotBuilt { at: Place },
     /// There are 256 files before it.
     TooMany,
     Memory,
@@ -71,6 +76,7 @@ fn program_of<'a>(
     tokens: &'a [Token],
 ) -> Result<&'a Program<'a>, Unread>
     ensures ok { IfOk result (λ program. Spells tokens.now program.now) }
+    ensures built { OnOk result (first_unbuilt tokens.now ≡ None) }
     ensures err { IfErr result (Is_unspelled number tokens.now) }
 {
     let program = match parsed(bump, number, tokens) {
@@ -78,6 +84,9 @@ fn program_of<'a>(
         Err(ParseErr::Memory) => return Err(Unread::Memory),
         Err(err) => return Err(Unread::Parse(err)),
     };
+    if let Some(at) = first_unbuilt(tokens) {
+        return Err(Unread::NotBuilt { at });
+    }
     match bump.try_alloc(program) {
         Ok(program) => Ok(program),
         Err(_) => Err(Unread::Memory),

@@ -1,7 +1,7 @@
 //! The tokens of forms that are not built yet.
 //!
-//! [`first_unbuilt`] finds the first of them: the words of modules, of declared types and of files (`specs/Unbuilt.antt`). Each is
-//! told by itself.
+//! [`first_unbuilt`] finds the first of them: the word `type` of declared types (`specs/Unbuilt.antt`). Directly
+//! behind `module` it begins a module type.
 #![tactic(auto)]
 
 mod words;

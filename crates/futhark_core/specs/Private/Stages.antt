@@ -4,9 +4,10 @@ use Rattle.fut_scalar.specs.declared.report.FailKind.{FailKind}
 use Rattle.fut_scalar.specs.declared.report.FailKind.TheVariants as fail
 use Rattle.fut_scalar.specs.declared.report.Report.{Report}
 use Rattle.fut_scalar.specs.declared.sizes.DataType.{DataType}
-use Rattle.fut_token.specs.declared.token.Token.{Token}
-use Rattle.fut_io.specs.Outside.{LoaderSeen, Loaded}
-use Rattle.fut_lexer.specs.Lexing.{HasTokens}
+use Rattle.fut_io.specs.Outside.{LoaderSeen}
+use Rattle.elab_scopes.specs.Imports.{Source_file, item, path_of}
+use Rattle.source_files.specs.declared.reading.Unread.{Unread}
+use Rattle.source_files.specs.declared.reading.Unread.TheVariants as unread
 use Rattle.fut_value.specs.Data.{Datum}
 use Rattle.fut_meaning.specs.Answers.{Gives, Fails}
 use Rattle.fut_meaning.specs.Outcomes.{Val, Fail}
@@ -15,7 +16,6 @@ use Rattle.fut_blocks.specs.Programs.{Program_means, NeverWrong}
 use Rattle.unfolded_runs.specs.Results.{Are_arguments, components_of, opened}
 use Rattle.fut_eval.specs.declared.program.EvalErr.{EvalErr}
 use Rattle.fut_eval.specs.declared.program.EvalErr.TheVariants as eval
-use Rattle.front.specs.Acceptance.{named_file}
 use Rattle.front.specs.declared.refusals.Refused.{Refused}
 use Rattle.front.specs.declared.refusals.Refused.TheVariants as refused
 use Rattle.value_text.specs.declared.reading.TextErr.{TextErr}
@@ -29,28 +29,24 @@ use Rattle.futhark_status.specs.declared.status.Why.{Why}
 use Rattle.futhark_status.specs.declared.status.Why.TheVariants as why
 use Rattle.futhark_status.specs.declared.status.Status.{Status}
 use Rattle.futhark_status.specs.declared.status.Status.TheVariants.{Entry, Limit, Input, Failure, Turns, Memory}
-use Rattle.futhark_core.specs.Acceptance.{Source, AcceptedTokens, UnacceptedTokens, UnacceptedFile}
+use Rattle.futhark_core.specs.Acceptance.{Source, AcceptedFile, UnacceptedFile}
 use Rattle.futhark_core.specs.Meaning.{Entered, Allows}
-use Rattle.futhark_core.specs.Row.{Streams, ActionRow, status_for}
-
--- ---- from a file to its tokens
-
--- the file has these tokens
-pub record IsLexed (file : List ℕ) (old new : LoaderSeen) (tokens : List Token) : Type 0 where
-  pub text : List ℕ
-  pub loaded : Loaded old new file text
-  pub lexed : HasTokens named_file text tokens
-
--- why it gave none: memory ran out, or it is not accepted
-abbrev pub ExplainsFile : List ℕ → LoaderSeen → LoaderSeen → Why → Type 0
-ExplainsFile file old new why.Memory = new ≡ old
-ExplainsFile file old new reason = UnacceptedFile file old new reason
+use Rattle.futhark_core.specs.Row.{ActionRow, Outside, status_for}
 
 -- ---- statuses
 
+abbrev pub unread_why : Unread → Why
+unread_why unread.Load = why.Load
+unread_why unread.TooLong = why.FileBytes
+unread_why (unread.Lex err) = why.Lex err
+unread_why (unread.Parse err) = why.Parse err
+unread_why (unread.NotBuilt at) = why.NotBuilt at
+unread_why unread.TooMany = why.Files
+unread_why unread.Memory = why.Memory
+
 abbrev pub why_of : Refused → Why
-why_of (refused.Parse err) = why.Parse err
-why_of (refused.NotBuilt at) = why.NotBuilt at
+why_of (refused.Unread err) = unread_why err
+why_of refused.ImportCycle = why.ImportCycle
 why_of (refused.Names err) = why.Names err
 why_of (refused.Types err) = why.Types err
 why_of (refused.Misfit err) = why.Sizes err
@@ -65,10 +61,10 @@ kind_status kind report path = Failure report path
 abbrev pub report_status : Report → List ℕ → Status
 report_status report path = kind_status report.kind report path
 
--- the status of a program that has no result
-abbrev pub failed_status : EvalErr → List ℕ → Status
-failed_status (eval.Failed report) path = report_status report path
-failed_status eval.Memory path = Memory
+-- the status of a program of these files that has no result, or memory ran out
+abbrev pub Is_failed_status : List Source_file → EvalErr → Status → Type 0
+Is_failed_status files (eval.Failed report) status = (status ≡ report_status report (path_of (item files report.place.file))) ⊎ (status ≡ Memory)
+Is_failed_status files eval.Memory status = status ≡ Memory
 
 -- the status of an input that gives no arguments
 abbrev pub input_status : TextErr → Status
@@ -95,25 +91,27 @@ pub record Runs_for (source : Source) (e : Entered) (turns : ℕ) (p : Program) 
 abbrev pub Never_wrong_for : List DataType → ℕ → Program → Type 0
 Never_wrong_for params turns p = (arguments : List Datum) → Are_arguments params arguments → NeverWrong true turns p arguments
 
--- ---- from tokens to a status
+-- ---- from files to a status
 
--- why tokens gave no source: memory ran out, or they are not accepted
-abbrev pub ExplainsTokens : List ℕ → List Token → Why → Type 0
-ExplainsTokens path tokens why.Memory = Unit {0}
-ExplainsTokens path tokens reason = UnacceptedTokens path tokens reason
+-- why files gave no source: memory ran out, or they are not accepted
+abbrev pub ExplainsSource : List ℕ → LoaderSeen → LoaderSeen → List ℕ → Why → Type 0
+ExplainsSource file old new path why.Memory = new ≡ old
+ExplainsSource file old new path reason = UnacceptedFile file old new path reason
 
--- the tokens are accepted, and then this was the end
-pub record TokensActed (asked : Command) (status : Status) (tokens : List Token) (old new : Streams) : Type 0 where
+-- the program that begins with the file of the command is accepted, and then this was the end
+pub record SourceActed (asked : Command) (status : Status) (old new : Outside) : Type 0 where
   pub source : Source
-  pub accepted : AcceptedTokens asked.file tokens source
-  pub ended : ActionRow asked.action status asked source old new
+  pub accepted : AcceptedFile asked.file old.loader new.loader source
+  pub ended : ActionRow asked.action status asked source (record { input = old.input; out = old.out }) (record { input = new.input; out = new.out })
 
--- they are not, and nothing was touched
-pub record TokensRefused (status : Status) (path : List ℕ) (tokens : List Token) (old new : Streams) : Type 0 where
+-- it is not, and nothing but the loader was touched
+pub record SourceRefused (file : List ℕ) (status : Status) (old new : Outside) : Type 0 where
   pub reason : Why
-  pub explains : ExplainsTokens path tokens reason
+  pub path : List ℕ
+  pub explains : ExplainsSource file old.loader new.loader path reason
   pub is : status ≡ status_for reason path
-  pub quiet : new ≡ old
+  pub input : new.input ≡ old.input
+  pub out : new.out ≡ old.out
 
-abbrev pub TokensRow : Command → Status → List Token → Streams → Streams → Type 0
-TokensRow asked status tokens old new = TokensActed asked status tokens old new ⊎ TokensRefused status asked.file tokens old new
+abbrev pub SourceRow : Command → Status → Outside → Outside → Type 0
+SourceRow asked status old new = SourceActed asked status old new ⊎ SourceRefused asked.file status old new

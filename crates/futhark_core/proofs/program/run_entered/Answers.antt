@@ -22,15 +22,15 @@ run_ready-requires-clause-never_wrong g c =
     never_wrong_for c.requires.known c.requires.sized c.requires.resolved c.requires.found pr c.args.command.now.turns
 
 pub returns-in-Ok : goal.returns-in-Ok
-returns-in-Ok g c = λ source same is.
+returns-in-Ok g c = λ source these same is.
     let told = c.in-Ok.ensures.prepared (Z c.requires.known c.requires.sized c.requires.resolved) (record { names = N c.requires.known c.requires.sized c.requires.resolved; numbered = numbered c.requires.known c.requires.sized c.requires.resolved; is = is_sizing c.requires.known c.requires.sized c.requires.resolved }) in
     let pr = rw c.as_slice-params.ensures at told in
-    c.run_ready.ensures source (entered c.requires.known c.requires.sized c.requires.resolved c.requires.found) refl refl refl refl
+    c.run_ready.ensures source (entered c.requires.known c.requires.sized c.requires.resolved c.requires.found) these refl refl refl refl
     (is_ready c.requires.known c.requires.sized c.requires.resolved c.requires.found pr (command_in c.args.command.now) source refl same is)
     (runs_for c.requires.known c.requires.sized c.requires.resolved c.requires.found pr source same is c.args.command.now.turns)
 
 pub returns-in-Err : goal.returns-in-Err
-returns-in-Err g c = λ source same is.
+returns-in-Err g c = λ source these same is.
     let told = c.in-Err.ensures.refused (Z c.requires.known c.requires.sized c.requires.resolved) (record { names = N c.requires.known c.requires.sized c.requires.resolved; numbered = numbered c.requires.known c.requires.sized c.requires.resolved; is = is_sizing c.requires.known c.requires.sized c.requires.resolved }) in
     let past = rw c.as_slice-params.ensures at told in
     rw c.unprepared.ensures (unready c.requires.known c.requires.sized c.requires.resolved c.requires.found (command_in c.args.command.now) source _ refl same is c.in-Err.err past)

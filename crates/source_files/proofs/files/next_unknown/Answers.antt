@@ -1,5 +1,4 @@
-use Rattle.std.proofs.Common.{◌≡◌, [], is_some, reverse, sym, ap, ◌∙◌}
-use Rattle.fut_tree.specs.Names.{names}
+use Rattle.std.proofs.Common.{[], is_some, sym, ap, ◌∙◌}
 use Rattle.elab_scopes.specs.Imports.{file_number}
 use Rattle.module_state.specs.Written.{files_of}
 use Rattle.source_files.proofs.Finding.{is_next, none_left, skips}
