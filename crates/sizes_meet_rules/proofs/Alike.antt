@@ -15,8 +15,9 @@ use Rattle.fut_sizes.specs.Steps.{State, Done, note, at_node}
 use Rattle.fut_sizes.specs.Suiting.{Each, Each_all, Scoped, Data, All_data}
 use Rattle.sizes_meet_rules.specs.Known.{Formed}
 use Rattle.sizes_meet_rules.proofs.Applying.{no_arrow}
-use Rattle.sizes_meet_rules.proofs.Chains.{Given, opened_by, after, wants, laters, last_opened, last_size, last_goes, last_found, grown, Steps_ran, Matched_ran}
+use Rattle.sizes_meet_rules.proofs.Chains.{Given, opened_by, after, wants, laters, last_opened, last_size, last_goes, last_found, Steps_ran, Matched_ran}
 use Rattle.sizes_meet_rules.proofs.Meeting.{each_scoped}
+use Rattle.sizes_meet_rules.proofs.Reading.{Extends}
 use Rattle.sizes_meet_rules.proofs.Replacing.{hole_as, hole_replaced}
 use Rattle.sizes_meet_rules.proofs.Settling.{Any_variable, nothing_settled}
 use Rattle.sizes_meet_rules.proofs.Filling.{Same, data_holes, Is_inferred, Nice, Taken_at, Taking, Stays, Agrees, Arrows, Given_met, Chain_as, chain_as, none_taken, nice_closed, nice_opened, nice_read, still_nice, size_same, agrees_before, not_open}
@@ -248,7 +249,8 @@ module _ (n : ℕ) (types : Variable → Ty) (P : Free → Type 0) (settled : (d
   pub record Behind_data (first last : Found) (t : Size) : Type 0 where
     pub taking : Taking n types P settled Vars last
     pub stays : Stays n types P settled Vars first last
-    pub size : last.size ≡ first.size
+    pub extends : Extends first last
+    pub slots : (i : ℕ) → (last.size i ≡ first.size i) ⊎ P (last.size i)
     pub later : first.next ≤ last.next
     pub makers : (i : ℕ) → i < first.next → last.maker i ≡ first.maker i
     pub taken : Each_hole (Taken_at n types P settled Vars last) t
@@ -260,7 +262,7 @@ module _ (n : ℕ) (types : Variable → Ty) (P : Free → Type 0) (settled : (d
     pub closed : (v : Variable) → Each (Scoped (λ d. Unit {0})) 0 (types_now v)
     pub nice : Each_hole (λ v. Nice n types P settled Vars v (types_now v)) t
     pub agrees : Agrees n types P settled Vars types_now last.result
-    pub ran : Matched_ran lo N sub gs (with_types types_now t) u
+    pub ran : Matched_ran lo N sub P gs (with_types types_now t) u
     pub after_is : ran.after ≡ last.state
 
   pub given_ran : (lo : ℕ) (N : Names) (sub : Sub) (regular : Bool) (gs : List Given) (t : Size) (st : State) (u : Done Size) → Arrows n types P settled Vars gs t → Formed t → Each_hole Is_inferred t → (R : Steps_ran lo N sub regular gs (instance n types t) st u)
@@ -274,8 +276,9 @@ module _ (n : ℕ) (types : Variable → Ty) (P : Free → Type 0) (settled : (d
     ran = record {
       first = G.found;
       met = G.answer;
-      next = R.last.result.next;
-      maker = R.last.result.maker;
+      last = R.last.result;
+      extends = λ j d s z. B.extends j d s (ap (λ (f : ℕ → Free). f j) G.same.size ∙ z);
+      slots = λ i. as_first i (B.slots i);
       later = let l = B.later in let e = G.same.next in omega (arith, l, e);
       makers = λ i l. B.makers i (let e = G.same.next in omega (arith, l, e)) ∙ ap (λ (m : ℕ → ℕ). m i) G.same.maker;
       after = R.last.state;
@@ -308,11 +311,15 @@ module _ (n : ℕ) (types : Variable → Ty) (P : Free → Type 0) (settled : (d
       G : Given_met n types P settled Vars R.first (data_met (wants lo gs none_opened (with_types Θ t) nothing_found) (last_found lo gs (with_types Θ t) nothing_found))
       G = C.given Θ (last_found lo gs (with_types Θ t) nothing_found) (agrees_before n types P settled Vars Θ R.first R.last.result B.stays found_is) same_before
 
+      as_first : (i : ℕ) → (R.last.result.size i ≡ R.first.size i) ⊎ P (R.last.result.size i) → (R.last.result.size i ≡ G.found.size i) ⊎ P (R.last.result.size i)
+      as_first i (inl z) = inl (z ∙ ap (λ (f : ℕ → Free). f i) G.same.size)
+      as_first i (inr h) = inr h
+
       now : Found
-      now = grown lo G.found R.last.result.next R.last.result.maker
+      now = R.last.result
 
       same_now : Same R.last.result now
-      same_now = record { size = B.size ∙ G.same.size; next = refl; maker = refl }
+      same_now = record { size = refl; next = refl; maker = refl }
 
       L : Last Θ (Taken_at n types P settled Vars R.last.result) nice lo gs t
       L = last_is Θ (Taken_at n types P settled Vars R.last.result) nice lo gs t a B.taken

@@ -19,69 +19,37 @@ use Rattle.fut_sizes.specs.Scopes.{Scope, instance}
 use Rattle.fut_sizes.specs.Scoping.{Context}
 use Rattle.fut_sizes.specs.Sizing.{finished}
 use Rattle.fut_sizes.specs.Steps.{State, Done, at_node}
-use Rattle.fut_sizes.specs.Suiting.{Each}
+use Rattle.fut_sizes.specs.Suiting.{Each, Scoped, Free_of, Suits}
 use Rattle.sizes_meet_rules.specs.Known.{Says, Judged, Elsewhere}
 use Rattle.sizes_meet_rules.specs.Plain.{Flat_function, Is_call}
 use Rattle.sizes_meet_rules.proofs.Applying.{read_twice}
-use Rattle.sizes_meet_rules.proofs.Chains.{Gives, Given, Waiting_given, Widths, arguments, Takes_all, widened, widened_widths, here, opened_by, after, wants, laters, last_opened, last_size, last_goes, last_found, Matched_ran, last_slots, arrows_of, argument_by, All_plain, Reads, Kept, met_all}
+use Rattle.sizes_meet_rules.proofs.Chains.{Gives, Given, Waiting_given, Named_given, Widths, arguments, Takes_all, widened, widened_widths, here, opened_by, after, wants, laters, last_opened, last_size, last_goes, last_found, Matched_ran, last_slots, arrows_of, argument_by, All_plain, Reads, Kept, met_all}
 use Rattle.sizes_meet_rules.proofs.Fitting.{Gives_type, function_gives}
 use Rattle.sizes_meet_rules.proofs.Frames.{Okay, none_meant, by_itself, Frames, not_filled, Framed, Settled_parameters, quantified_as}
-use Rattle.sizes_meet_rules.proofs.Meeting.{at_itself, at_another, With_met, met_settled}
+use Rattle.sizes_meet_rules.proofs.Meeting.{each_scoped, at_itself, at_another, With_met, met_settled}
 use Rattle.sizes_meet_rules.proofs.Noting.{gives_settled, within_avoids, Placed, placed_order, Avoids, Within, Right, noting, noting_other, noting_right, right_as, right_first, right_later, both_closed, both_avoid, both_within, both_distinct, laters_avoid, laters_within, laters_distinct, laters_closed, uses_avoid, uses_within, uses_distinct, uses_closed, met_noted_is, ended, Stages, Unnamed, stages}
 use Rattle.sizes_meet_rules.proofs.Reading.{found_settled}
 use Rattle.sizes_meet_rules.proofs.Replacing.{hole_as}
 use Rattle.sizes_meet_rules.proofs.Settling.{Any_variable}
 use Rattle.sizes_meet_rules.proofs.Showing.{Law_of}
-use Rattle.sizes_meet_rules.proofs.Chains.{grown}
 use Rattle.fut_sizes.specs.Levels.{levels_within}
 use Rattle.fut_sizes.specs.Applications.{Want, Met}
 use Rattle.fut_sizes.specs.Steps.{Step}
 use Rattle.sizes_meet_rules.proofs.Meeting.{Meets}
-use Rattle.sizes_meet_rules.proofs.Heads.{Head, Primitive_head, Resolved, resolved, primitive_lambda, primitive_wide}
-use Rattle.sizes_meet_rules.proofs.Parts.{spine, all_some, Data_meets, Function_meets, Lambda_waits, Lambda_wide, All_given, One_waits, First_waits, All_parts, below, none_dropped, not_in_outside, Later_part, all_plain, all_fit, Last_says, last_says, Inner_nodes, nodes_of, stage_here, rules_all}
+use Rattle.sizes_meet_rules.proofs.Heads.{Head, Primitive_head, Resolved, resolved, primitive_lambda, primitive_named, primitive_wide}
+use Rattle.sizes_meet_rules.proofs.Parts.{spine, all_some, Data_meets, Function_meets, Lambda_waits, Lambda_wide, Named_wide, Given_meets, All_given, One_waits, First_waits, All_parts, below, none_dropped, not_in_outside, Later_part, all_plain, all_fit, Last_says, last_says, Inner_nodes, nodes_of, stage_here, rules_all}
 use Rattle.sizes_meet_rules.proofs.Later.{own_state, with_size, sized_by, state_by, Went_by, sized_arguments, sized_arrows, sized_spine, sized_placed, sized_widths, data_parts, one_parts, none_later, one_later, one_given}
 use Rattle.sizes_meet_rules.proofs.Spines.{Spine, Spine_meets, Spine_law}
+use Rattle.sizes_meet_rules.proofs.Named.{named_found, same_named, named_size, named_is_function, Used_as}
 use Rattle.sizes_meet_rules.proofs.Lambdas.{Wants_formed, wanted_of, found_behind, Lambda_result, All_data_given}
 use Rattle.sizes_meet_rules.proofs.Primitives.{types_there}
 use Rattle.sizes_meet_rules.proofs.Wanting.{then_is}
 use Rattle.sizes_meet_rules.proofs.Wide.{same_wanted, same_behind, wide_size, wide_is_function, wide_answer, behind_settled, Wide_went, wide_meets, wide_later, wide_gives}
 
--- what is read does not hang on the numbers that are taken
-module _ (lo : ℕ) (In P : Free → Type 0) (no_slot : (d : Free) → In d → is_slot d ≡ false) (settled : (d : Free) → P d → is_slot d ≡ false) (σ : Found) (n : ℕ) (m : ℕ → ℕ) where
-  grown_dim : (d : Dim) → found_dim (grown lo σ n m) 0 d ≡ found_dim σ 0 d
-  grown_dim (At (Slot i)) = refl
-  grown_dim (At (Const c)) = refl
-  grown_dim (At (Name c)) = refl
-  grown_dim (At (Own k i)) = refl
-  grown_dim (At (Unknown k i)) = refl
-  grown_dim (Bound k i) = refl
-
-  mutual
-    unfolding read all_read
-
-    grown_read : (t : Size) → read (grown lo σ n m) t ≡ read σ t
-    grown_read (Hole v) = refl
-    grown_read (Open k v u) = refl
-    grown_read (Level d t) = ap (λ e. Level e (read (grown lo σ n m) t)) (grown_dim d) ∙ ap (Level (found_dim σ 0 d)) (grown_read t)
-    grown_read (Built h ts) = ap (Built h) (all_grown_read ts)
-    grown_read (Fun k p r) = ap (λ x. Fun k x (read (grown lo σ n m) r)) (grown_read p) ∙ ap (Fun k (read σ p)) (grown_read r)
-
-    all_grown_read : (ts : Sizes) → all_read (grown lo σ n m) ts ≡ all_read σ ts
-    all_grown_read no_size = refl
-    all_grown_read (size_and t ts) = ap (λ x. size_and x (all_read (grown lo σ n m) ts)) (grown_read t) ∙ ap (size_and (read σ t)) (all_grown_read ts)
-
-  reads_grown : (gs : List Given) (φ : Opened) (t : Size) (υ : Found) → Reads lo In P no_slot settled gs φ t υ σ → Reads lo In P no_slot settled gs φ t υ (grown lo σ n m)
-  reads_grown [] φ t υ h = tt
-  reads_grown (g ∷ gs) φ (Fun k p r) υ h = (grown_read (in_opened (opened_by lo gs g υ k φ) p) ∙ h.0, reads_grown gs (opened_by lo gs g υ k φ) r (after lo gs g υ k) h.1)
-  reads_grown (g ∷ gs) φ (Hole v) υ h = tt
-  reads_grown (g ∷ gs) φ (Open k v u) υ h = tt
-  reads_grown (g ∷ gs) φ (Level d t) υ h = tt
-  reads_grown (g ∷ gs) φ (Built f ts) υ h = tt
-
 module _ (N : Names) (types : Sub) (home : ℕ → ℕ) (K : Kinds) (places : Kind) (data_places : 1 ≤ level places) where
   -- ---- with the numbers that are kept for each result
 
-  wide_argument : (g : Given) (m : ℕ) (o : Option (Option Want → Found → Step Met)) → argument_by o (record { node = g.node; value = g.value; named = g.named; size = g.size; term = g.term; width = m; waits = g.waits }) ≡ argument_by o g
+  wide_argument : (g : Given) (m : ℕ) (o : Option Argument) → argument_by o (record { node = g.node; value = g.value; named = g.named; size = g.size; term = g.term; width = m; waits = g.waits }) ≡ argument_by o g
   wide_argument g m None = refl
   wide_argument g m (Some f) = refl
 
@@ -147,7 +115,8 @@ module _ (N : Names) (types : Sub) (home : ℕ → ℕ) (K : Kinds) (places : Ki
 
     wide_first : (gs : List Given) (t : Size) (st A : State) → First_waits N types home K places data_places In Vars scope gs st A → First_waits N types home K places data_places In Vars scope (widened gs t) st A
     wide_first [] t st A h = absurd h
-    wide_first (g ∷ gs) (Fun k p r) st A h = (record { st = h.0.st; part = h.0.part; waits = h.0.waits; waits_is = h.0.waits_is; value = h.0.value; named = h.0.named; is_fun = h.0.is_fun; gives = h.0.gives }, wide_given gs r st A h.1)
+    wide_first (g ∷ gs) (Fun k p r) st A (inl L, h) = (inl (record { st = L.st; part = L.part; waits = L.waits; waits_is = L.waits_is; value = L.value; named = L.named; is_fun = L.is_fun; gives = L.gives }), wide_given gs r st A h)
+    wide_first (g ∷ gs) (Fun k p r) st A (inr L, h) = (inr (record { own = L.own; waits_is = L.waits_is; named = L.named; own_fun = L.own_fun; value_is = L.value_is; value_known = L.value_known; says = L.says; typed = L.typed; arrows = L.arrows; of_function = L.of_function; rules = L.rules }), wide_given gs r st A h)
     wide_first (g ∷ gs) (Hole v) st A h = h
     wide_first (g ∷ gs) (Open m v u) st A h = h
     wide_first (g ∷ gs) (Level d t) st A h = h
@@ -183,7 +152,7 @@ module _ (N : Names) (types : Sub) (home : ℕ → ℕ) (K : Kinds) (places : Ki
   ends_alike false maker t h = refl
 
   module _ (In : Free → Type 0) (Vars : Variable → Type 0) (scope : Scope) (f : FlatTerm) (lo : ℕ) (E : Elsewhere N types home lo (lo + numbers f) In) (term : FlatTerm) (term_some : 1 ≤ numbers term) (gs : List Given) (is : f ≡ spine term gs) (placed : Placed gs (lo + length (arguments gs) + numbers term) (lo + numbers f)) (some : Nonempty gs) (u : Done Size)
-      (t : Size) (says : Says (With_met In (lo + length (arguments gs) + numbers term) (lo + numbers f)) Vars t) (size_typed : erased t ≡ arrows_of types gs (types lo)) (takes : Takes_all gs t) (M : Matched_ran lo N types gs t u) (rule : (m : ℕ) (s : ℕ → Size) (G : Context) → Judged In Vars scope G → s m ≡ t → Sized N types s home term m G)
+      (t : Size) (says : Says (With_met In (lo + length (arguments gs) + numbers term) (lo + numbers f)) Vars t) (size_typed : erased t ≡ arrows_of types gs (types lo)) (takes : Takes_all gs t) (M : Matched_ran lo N types (With_met In (lo + length (arguments gs) + numbers term) (lo + numbers f)) gs t u) (rule : (m : ℕ) (s : ℕ → Size) (G : Context) → Judged In Vars scope G → s m ≡ t → Sized N types s home term m G)
       (st A : State) (parts : All_parts N types home K places data_places In Vars scope (lo + numbers f) A M.after gs st A) (later : Later_part N types home K places data_places In Vars scope A M.after gs) where
     abbrev B : State
     B = M.after
@@ -216,7 +185,7 @@ module _ (N : Names) (types : Sub) (home : ℕ → ℕ) (K : Kinds) (places : Ki
     plain_given = all_plain N types home K places data_places In Vars scope lo first hi E from_lo A B gs st A first (omega arith) placed parts
 
     abbrev τ : Found
-    τ = grown lo M.first M.next M.maker
+    τ = M.last
 
     no_frames : Frames
     no_frames j i = Const 0
@@ -227,14 +196,18 @@ module _ (N : Names) (types : Sub) (home : ℕ → ℕ) (K : Kinds) (places : Ki
     meant : Each (Okay Known_in none_meant) 0 t
     meant = by_itself Known_in t says.sizes
 
-    matched_first : Reads lo Known_in Known_in known_settled known_settled gs none_opened t nothing_found M.first × Kept lo Known_in Known_in known_settled known_settled (last_found lo gs t nothing_found) M.first
-    matched_first = met_all lo Known_in Known_in known_settled known_settled gs none_opened t nothing_found none_meant no_frames unframed takes meant says.formed plain_given (last_found lo gs t nothing_found) M.first M.met
+    matched_first : Reads lo Known_in Known_in known_settled known_settled gs none_opened t nothing_found τ × Kept lo Known_in Known_in known_settled known_settled (last_found lo gs t nothing_found) M.first
+    matched_first = met_all lo Known_in Known_in known_settled known_settled gs none_opened t nothing_found none_meant no_frames unframed takes meant says.formed plain_given (last_found lo gs t nothing_found) M.first τ M.extends M.met
 
     matched : Reads lo Known_in Known_in known_settled known_settled gs none_opened t nothing_found τ
-    matched = reads_grown lo Known_in Known_in known_settled known_settled M.first M.next M.maker gs none_opened t nothing_found matched_first.0
+    matched = matched_first.0
 
     slots : (i : ℕ) → (τ.size i ≡ Slot i) ⊎ Known_in (τ.size i)
-    slots = matched_first.1.slots (last_slots lo Known_in Known_in known_settled known_settled gs t nothing_found (λ i. inl refl))
+    slots i = by_last (M.slots i)
+      where
+        by_last : (τ.size i ≡ M.first.size i) ⊎ Known_in (τ.size i) → (τ.size i ≡ Slot i) ⊎ Known_in (τ.size i)
+        by_last (inl z) = subst (λ d. (d ≡ Slot i) ⊎ Known_in d) (sym z) (matched_first.1.slots (last_slots lo Known_in Known_in known_settled known_settled gs t nothing_found (λ j. inl refl)) i)
+        by_last (inr h) = inr h
 
     makers : (x : ℕ) → x < (last_found lo gs t nothing_found).next → τ.maker x ≡ (last_found lo gs t nothing_found).maker x
     makers x l = M.makers x (let e = matched_first.1.next in omega (arith, l, e)) ∙ matched_first.1.maker x l
@@ -568,9 +541,105 @@ module _ (N : Names) (types : Sub) (home : ℕ → ℕ) (K : Kinds) (places : Ki
             (st, (inr (wide_meets N types home K places data_places In Vars scope lo from_there end_here E low g L node_is first_room answer d.state R.ends.0, refl), data_parts N types home K places data_places In Vars scope end_here behind d.state gs st d.state h)))
             (subst (λ B. Later_part N types home K places data_places In Vars scope d.state B (first_now ∷ gs)) (sym R.ends.1) (wide_later N types home K places data_places In Vars scope lo from_there end_here E low g L node_is first_room answer d.state R.ends.0 gs))
 
+      -- and a name before data, which is used at the sizes that are wanted of it
+      module _ (g : Given) (gs : List Given) (z : g ∷ gs ≡ wide) (L : Named_wide N types home K places data_places In Vars scope g) (h : All_given N types home K places data_places In Vars scope gs st d.state) (H : Primitive_head N types home K In Vars scope S.term S.size S.regular S.type) where
+        abbrev types_here : Variable → Ty
+        types_here = types_there H.node H.primitive S.type H.given H.typed
+
+        abbrev named_opened : Size
+        named_opened = instance H.node types_here (prim_size H.primitive)
+
+        abbrev named_answer : Answer Found
+        named_answer = named_found lo (is_regular H.primitive) g L.own gs named_opened
+
+        abbrev named_now : Given
+        named_now = with_size g (named_size H.node types_here (prim_size H.primitive) named_answer)
+
+        named_arguments : arguments (named_now ∷ gs) ≡ arguments wide
+        named_arguments = ap (λ a. a ∷ arguments gs) (ap (λ o. argument_by o named_now) L.waits_is ∙ ap (λ o. argument_by o g) (sym L.waits_is)) ∙ ap arguments z
+
+        named_arrows : (x : Ty) → arrows_of types (named_now ∷ gs) x ≡ arrows_of types wide x
+        named_arrows x = ap (λ ws. arrows_of types ws x) z
+
+        named_spine : spine S.term (named_now ∷ gs) ≡ spine S.term wide
+        named_spine = ap (spine S.term) z
+
+        named_placed : Placed wide (lo + length (arguments wide) + numbers S.term) end_here → Placed (named_now ∷ gs) (lo + length (arguments wide) + numbers S.term) end_here
+        named_placed p = subst (λ ws. Placed ws (lo + length (arguments wide) + numbers S.term) end_here) (sym z) p
+
+        abbrev begins : ℕ
+        begins = first_here (named_now ∷ gs) named_arguments named_arrows named_spine named_placed tt
+
+        placed_there_now : Placed (named_now ∷ gs) begins end_here
+        placed_there_now = placed_there (named_now ∷ gs) named_arguments named_arrows named_spine named_placed tt
+
+        begins_at : begins ≡ g.node
+        begins_at = sym placed_there_now.0
+
+        begins_within : begins ≤ end_here
+        begins_within = placed_order (named_now ∷ gs) begins end_here placed_there_now
+
+        abbrev In_all : Free → Type 0
+        In_all x = With_met In begins end_here x
+
+        data_behind : All_data_given In_all Vars K types gs
+        data_behind = all_fit N types home K places data_places In Vars scope lo begins end_here E (omega arith) gs st d.state (begins + numbers g.term) (omega arith) placed_there_now.1 h
+
+        -- none of its sizes is made at a node before its arguments
+        fresh_at : (n : ℕ) → lo ≤ n → n < begins → (x : Free) → In_all x → Free_of n x
+        fresh_at n l l' (Const c) w = tt
+        fresh_at n l l' (Name c) w = tt
+        fresh_at n l l' (Own k i) (inl w) = λ e. let b = begins_within in E.outside (Own k i) w (omega (arith, e, l), omega (arith, e, l', b))
+        fresh_at n l l' (Own k i) (inr w) = absurd w
+        fresh_at n l l' (Unknown k i) (inl w) = λ e. let b = begins_within in E.outside (Unknown k i) w (omega (arith, e, l), omega (arith, e, l', b))
+        fresh_at n l l' (Unknown k i) (inr w) = λ e. let a = w.0 in omega (arith, e, a, l')
+        fresh_at n l l' (Slot i) (inl w) = let y : true ≡ false = E.no_slot (Slot i) w in cc
+        fresh_at n l l' (Slot i) (inr w) = w
+
+        term_there : 1 ≤ numbers S.term
+        term_there = S.some
+
+        abbrev given_named : Named_given named_now
+        given_named = record { own = L.own; waits = L.waits_is; named = L.named; own_fun = L.own_fun; is_fun = named_is_function H.node types_here (prim_size H.primitive) named_answer }
+
+        named_width : (t : Size) → Widths (g ∷ gs) t → Widths (named_now ∷ gs) t
+        named_width (Fun k p r) w = w
+        named_width (Hole v) w = tt
+        named_width (Open m v x) w = tt
+        named_width (Level e t) w = tt
+        named_width (Built b ts) w = tt
+
+        R_named : Resolved N types home K In Vars scope S.term S.size S.regular S.type In_all (λ x i. inl i) (settled_here (named_now ∷ gs) named_arguments named_arrows named_spine named_placed tt) lo (named_now ∷ gs) d.state u (λ s. Used_as In_all Vars L.own named_now.size × (s ≡ d.state))
+        R_named = primitive_named N types home K In Vars scope S.term S.size S.regular S.type In_all (λ x i. inl i) (settled_here (named_now ∷ gs) named_arguments named_arrows named_spine named_placed tt) lo named_now gs d.state u (types lo) (arrows_there (named_now ∷ gs) named_arguments named_arrows named_spine named_placed tt)
+            (named_width S.size (subst (λ ws. Widths ws S.size) (sym z) (widened_widths S.given S.size))) (ran_there (named_now ∷ gs) named_arguments named_arrows named_spine named_placed tt) H (data_kind H)
+            given_named L.of_function.0 L.of_function.1.0 L.of_function.1.1 data_behind (record { formed = L.says.formed; sizes = each_scoped In In_all (λ x i. inl i) L.own 0 L.says.sizes; variables = L.says.variables; arrows = L.arrows }) L.typed
+            (ap (named_size H.node types_here (prim_size H.primitive)) (sym (same_named lo (is_regular H.primitive) g (named_size H.node types_here (prim_size H.primitive) named_answer) L.own gs named_opened)))
+            (λ b w. fresh_at (here lo gs) (omega arith) (let n = term_there in omega (arith, n)) (Unknown (here lo gs) b) w refl) lo (suc lo) (λ e. omega (arith, e)) (λ x w. (fresh_at lo (omega arith) (omega arith) x w, fresh_at (suc lo) (omega arith) (let n = term_there in omega (arith, n)) x w))
+
+        named_meets : Used_as In_all Vars L.own named_now.size → Given_meets N types home K places data_places In Vars scope end_here named_now d.state d.state
+        named_meets U = record {
+          value_is = L.value_is;
+          inner = record {
+            says = record { sizes = subst (λ m. Each (Scoped (λ x. With_met In m end_here x)) 0 named_now.size) begins_at U.says.sizes; variables = U.says.variables; formed = U.says.formed };
+            typed = U.typed ∙ L.typed;
+            kept = λ n o. refl;
+            dropped = λ n o. refl;
+            rules = λ s G J e a. L.rules s G J (subst (Suits L.own) (sym e) U.suits);
+          };
+          noted = λ e. absurd (let y : true ≡ false = sym L.named ∙ e in cc);
+          value_known = L.value_known;
+        }
+
+        one_named : Meets N types home In Vars scope f lo end_here st u.result u.state
+        one_named = meets_there (named_now ∷ gs) named_arguments named_arrows named_spine named_placed tt (λ s. Used_as In_all Vars L.own named_now.size × (s ≡ d.state)) R_named
+            (subst (λ B. All_parts N types home K places data_places In Vars scope end_here d.state B (named_now ∷ gs) st d.state) (sym R_named.ends.1)
+            (st, (inr (named_meets R_named.ends.0, refl), data_parts N types home K places data_places In Vars scope end_here d.state d.state gs st d.state h)))
+            (subst (λ B. Later_part N types home K places data_places In Vars scope d.state B (named_now ∷ gs)) (sym R_named.ends.1) (none_later N types home K places data_places In Vars scope d.state (named_now ∷ gs)))
+
       first_meets : (ws : List Given) → ws ≡ wide → First_waits N types home K places data_places In Vars scope ws st d.state → Primitive_head N types home K In Vars scope S.term S.size S.regular S.type → Meets N types home In Vars scope f lo end_here st u.result u.state
       first_meets [] z h H = absurd h
-      first_meets (g ∷ gs) z h H = one_first g gs z h.0 h.1 H
+      first_meets (g ∷ gs) z (inl L, h) H = one_first g gs z L h H
+      first_meets (g ∷ gs) z (inr L, h) H = one_named g gs z L h H
 
       any_meets : Meets N types home In Vars scope f lo end_here st u.result u.state
       any_meets = by_kind S.meet

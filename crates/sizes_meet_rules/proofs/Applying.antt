@@ -47,7 +47,7 @@ module _ (P : Free → Type 0) (settled : (d : Free) → P d → is_slot d ≡ f
   stays_then : (σ τ υ : Found) → Stays σ τ → Stays τ υ → Stays σ υ
   stays_then σ τ υ a b = ((λ k. b.0 (a.0 k)), b.1 ∙ a.1, b.2 ∙ a.2)
 
-  stays_put : (i : ℕ) (e : Free) (σ : Found) → P e → Stays σ (size_found i e σ)
+  pub stays_put : (i : ℕ) (e : Free) (σ : Found) → P e → Stays σ (size_found i e σ)
   stays_put i e σ h = ((λ k j. one j (k j)), refl, refl)
     where
       two : (j : ℕ) (b : Bool) → (cond b e (Slot j) ≡ Slot j) ⊎ P (cond b e (Slot j))
@@ -199,6 +199,21 @@ function_is (Fun k p r) a c f e = record {
   from_typed = let z : Made head.Fun (more (erased p) (more (erased r) none)) ≡ Made head.Fun (more a (more c none)) = e in cc;
   to_typed = let z : Made head.Fun (more (erased p) (more (erased r) none)) ≡ Made head.Fun (more a (more c none)) = e in cc;
 }
+
+-- what it is in any case
+abbrev pub as_function : Size → Size
+as_function (Fun k p r) = Fun k p r
+as_function t = Fun 0 (Built head.Tuple no_size) (Built head.Tuple no_size)
+
+pub function_there : (t : Size) → is_function (as_function t) ≡ true
+function_there (Fun k p r) = refl
+function_there (Hole v) = refl
+function_there (Open m v u) = refl
+function_there (Level d t) = refl
+function_there (Built h ts) = refl
+
+pub same_function : (t : Size) (a c : Ty) → Formed t → erased t ≡ fun_ty a c → as_function t ≡ t
+same_function t a c f e = let W = function_is t a c f e in ap as_function W.is_function ∙ sym W.is_function
 
 -- ---- the positions of a function that is applied
 

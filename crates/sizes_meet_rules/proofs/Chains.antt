@@ -35,15 +35,15 @@ pub record Given : Type 0 where
   pub term : FlatTerm
   -- how many numbers are kept for what the function gives behind it
   pub width : ℕ
-  -- of a lambda, which waits for what is wanted of it
-  pub waits : Option (Option Want → Found → Step Met)
+  -- as which it is matched, where its sized type is that which is wanted: a lambda that waits, or the use of a name
+  pub waits : Option Argument
 
 abbrev pub early : Given → Argument
 early g = Early g.node g.value g.named g.size
 
-abbrev pub argument_by : Option (Option Want → Found → Step Met) → Given → Argument
+abbrev pub argument_by : Option Argument → Given → Argument
 argument_by None g = early g
-argument_by (Some f) g = Late g.node f
+argument_by (Some a) g = a
 
 abbrev pub arguments : List Given → List Argument
 arguments [] = []
@@ -218,13 +218,21 @@ module _ (In : Free → Type 0) (ok : ℕ → ℕ → Type 0) (k : ℕ) (p r : S
 -- an argument whose sized type is known, or a lambda that waits
 pub record Waiting_given (g : Given) : Type 0 where
   pub waiting : Option Want → Found → Step Met
-  pub waits : g.waits ≡ Some waiting
+  pub waits : g.waits ≡ Some (Late g.node waiting)
   pub value : g.value ≡ None
   pub named : g.named ≡ false
   pub is_fun : is_function g.size ≡ true
 
+-- a function by its name, which is used at the sized type that is wanted of it
+pub record Named_given (g : Given) : Type 0 where
+  pub own : Size
+  pub waits : g.waits ≡ Some (Early g.node g.value true own)
+  pub named : g.named ≡ true
+  pub own_fun : is_function own ≡ true
+  pub is_fun : is_function g.size ≡ true
+
 abbrev pub Kind_of : Given → Type 0
-Kind_of g = (g.waits ≡ None) ⊎ Waiting_given g
+Kind_of g = (g.waits ≡ None) ⊎ (Waiting_given g ⊎ Named_given g)
 
 abbrev pub All_kinds : List Given → Type 0
 All_kinds [] = Unit {0}
@@ -232,11 +240,13 @@ All_kinds (g ∷ gs) = Kind_of g × All_kinds gs
 
 frame_same : (m next k : ℕ) (g : Given) → Kind_of g → applied_frame m next k (argument_by g.waits g) ≡ applied_frame m next k (early g)
 frame_same m next k g (inl d) = ap (λ o. applied_frame m next k (argument_by o g)) d
-frame_same m next k g (inr W) = ap (λ o. applied_frame m next k (argument_by o g)) W.waits ∙ ap {B = ℕ → Dim} (λ (v : Option Free) (i : ℕ). cond (nat_lt i k) (At (Slot (next + i))) (cond (nat_eq i k) (value_or v (Unknown m (next + k))) (At (Unknown m (next + i))))) (sym W.value)
+frame_same m next k g (inr (inr W)) = ap (λ o. applied_frame m next k (argument_by o g)) W.waits
+frame_same m next k g (inr (inl W)) = ap (λ o. applied_frame m next k (argument_by o g)) W.waits ∙ ap {B = ℕ → Dim} (λ (v : Option Free) (i : ℕ). cond (nat_lt i k) (At (Slot (next + i))) (cond (nat_eq i k) (value_or v (Unknown m (next + k))) (At (Unknown m (next + i))))) (sym W.value)
 
 use_same : (g : Given) (φ : Opened) (p : Size) (ls : List Later) → Kind_of g → with_use (argument_by g.waits g) φ p ls ≡ with_use (early g) φ p ls
 use_same g φ p ls (inl d) = ap (λ o. with_use (argument_by o g) φ p ls) d
-use_same g φ p ls (inr W) = ap (λ o. with_use (argument_by o g) φ p ls) W.waits ∙ ap (λ b. with_use (Early g.node g.value b g.size) φ p ls) (sym W.named)
+use_same g φ p ls (inr (inr W)) = ap (λ o. with_use (argument_by o g) φ p ls) W.waits ∙ ap (λ b. with_use (Early g.node g.value b g.size) φ p ls) (sym W.named)
+use_same g φ p ls (inr (inl W)) = ap (λ o. with_use (argument_by o g) φ p ls) W.waits ∙ ap (λ b. with_use (Early g.node g.value b g.size) φ p ls) (sym W.named)
 
 module _ (n : ℕ) where
   -- ---- the steps: the node of an application is so many behind the last one's as arguments are left
@@ -315,7 +325,9 @@ module _ (n : ℕ) where
 
   one_same : (gs : List Given) (g : Given) (ψ : Opened) (p : Size) (σ : Found) → Kind_of g → one_data gs g ψ p (argument_by g.waits g) σ ≡ one_data gs g ψ p (early g) σ
   one_same gs g ψ p σ (inl d) = ap (λ o. one_data gs g ψ p (argument_by o g) σ) d
-  one_same gs g ψ p σ (inr W) = ap (λ o. one_data gs g ψ p (argument_by o g) σ) W.waits ∙ ap (λ b. cond b (Ok σ) (meet (here gs) data_way g.node ψ p none_opened g.size (made_at (here gs) σ))) (sym W.is_fun)
+  one_same gs g ψ p σ (inr (inr W)) = ap (λ o. one_data gs g ψ p (argument_by o g) σ) W.waits ∙ ap (λ b. cond b (Ok σ) (meet (here gs) data_way g.node ψ p none_opened W.own (made_at (here gs) σ))) W.own_fun
+      ∙ ap (λ b. cond b (Ok σ) (meet (here gs) data_way g.node ψ p none_opened g.size (made_at (here gs) σ))) (sym W.is_fun)
+  one_same gs g ψ p σ (inr (inl W)) = ap (λ o. one_data gs g ψ p (argument_by o g) σ) W.waits ∙ ap (λ b. cond b (Ok σ) (meet (here gs) data_way g.node ψ p none_opened g.size (made_at (here gs) σ))) (sym W.is_fun)
 
   data_step : (gs : List Given) (g : Given) (φ : Opened) (k : ℕ) (p r : Size) (σ before : Found) → data_met (wants (g ∷ gs) φ (Fun k p r) σ) before ≡ then_do (one_data gs g (opened_by gs g σ k φ) p (early g) before) (λ found. data_met (wants gs (opened_by gs g σ k φ) r (after gs g σ k)) found)
   unfolding data_met
@@ -368,10 +380,6 @@ module _ (n : ℕ) where
   no_function_met reg (g ∷ gs) φ (Level e t) σ h d τ st = absurd h
   no_function_met reg (g ∷ gs) φ (Built f ts) σ h d τ st = absurd h
 
-  -- a state of matching in which more numbers are taken
-  abbrev pub grown : Found → ℕ → (ℕ → ℕ) → Found
-  grown σ m f = record { size = σ.size; type = σ.type; next = m; maker = f }
-
   module _ (N : Names) (types : Sub) where
     abbrev pub Noted_with : List Given → Size → Found → State → Done Size → Type 0
     Noted_with gs t found st u = met_noted N types n (record { size = read found (in_opened (last_opened gs none_opened t nothing_found) (last_size gs t)); found = found; later = laters gs none_opened t nothing_found ++ uses (wants gs none_opened t nothing_found); goes_on = last_goes gs true t }) st ≡ Ok u
@@ -384,16 +392,17 @@ module _ (n : ℕ) where
       pub functions : functions_met reg (given_wants gs none_opened t nothing_found) first st ≡ Ok last
       pub noted : Noted_with gs t last.result last.state u
 
-    -- what is found of data's sizes is all that is found
-    pub record Matched_ran (gs : List Given) (t : Size) (u : Done Size) : Type 0 where
+    -- behind data functions find sizes of these, and change none that is found
+    pub record Matched_ran (P : Free → Type 0) (gs : List Given) (t : Size) (u : Done Size) : Type 0 where
       pub first : Found
       pub met : data_met (wants gs none_opened t nothing_found) (last_found gs t nothing_found) ≡ Ok first
-      pub next : ℕ
-      pub maker : ℕ → ℕ
-      pub later : first.next ≤ next
-      pub makers : (i : ℕ) → i < first.next → maker i ≡ first.maker i
+      pub last : Found
+      pub extends : Extends first last
+      pub slots : (i : ℕ) → (last.size i ≡ first.size i) ⊎ P (last.size i)
+      pub later : first.next ≤ last.next
+      pub makers : (i : ℕ) → i < first.next → last.maker i ≡ first.maker i
       pub after : State
-      pub noted : Noted_with gs t (grown first next maker) after u
+      pub noted : Noted_with gs t last after u
 
     matched_at : (reg : Bool) (ws : List Wanting) (σ : Found) (st : State) (d : Done Found) → all_matched reg ws σ st ≡ Ok d → (τ : Found) × (data_met ws σ ≡ Ok τ) × (functions_met reg ws τ st ≡ Ok d)
     unfolding all_matched
@@ -426,8 +435,8 @@ module _ (n : ℕ) where
         now = B.2 ∙ ap (λ ls. record { result = record { size = read B.0.result (in_opened (last_opened gs none_opened t nothing_found) (last_size gs t)); found = B.0.result; later = (laters gs none_opened t nothing_found) ++ ls; goes_on = last_goes gs true t }; state = B.0.state }) (uses_same gs none_opened t nothing_found kinds)
 
     -- arguments of data alone leave the state as it is
-    pub data_ran : (reg : Bool) (gs : List Given) (t : Size) (st : State) (u : Done Size) → Has_arrows gs t → All_data gs → Steps_ran reg gs t st u → (M : Matched_ran gs t u) × (M.after ≡ st)
-    data_ran reg gs t st u h d R = (record { first = R.first; met = R.met; next = R.first.next; maker = R.first.maker; later = omega arith; makers = λ i l. refl; after = st; noted = ap (λ (x : Done Found). met_noted N types n (record { size = read x.result (in_opened (last_opened gs none_opened t nothing_found) (last_size gs t)); found = x.result; later = laters gs none_opened t nothing_found ++ uses (wants gs none_opened t nothing_found); goes_on = last_goes gs true t }) x.state) same ∙ R.noted }, refl)
+    pub data_ran : (P : Free → Type 0) (reg : Bool) (gs : List Given) (t : Size) (st : State) (u : Done Size) → Has_arrows gs t → All_data gs → Steps_ran reg gs t st u → (M : Matched_ran P gs t u) × (M.after ≡ st)
+    data_ran P reg gs t st u h d R = (record { first = R.first; met = R.met; last = R.first; extends = λ j d s z. z; slots = λ i. inl refl; later = omega arith; makers = λ i l. refl; after = st; noted = ap (λ (x : Done Found). met_noted N types n (record { size = read x.result (in_opened (last_opened gs none_opened t nothing_found) (last_size gs t)); found = x.result; later = laters gs none_opened t nothing_found ++ uses (wants gs none_opened t nothing_found); goes_on = last_goes gs true t }) x.state) same ∙ R.noted }, refl)
       where
         same : record { result = R.first; state = st } ≡ R.last
         same = same_ok (sym (no_function_met reg gs none_opened t nothing_found h d R.first st) ∙ R.functions)
@@ -486,11 +495,11 @@ module _ (n : ℕ) where
       pub next : τ.next ≡ σ.next
 
     -- one argument more
-    one_met_more : (gs : List Given) (g : Given) (φ : Opened) (k : ℕ) (p r : Size) (σ : Found) (ok : ℕ → ℕ → Type 0) (δ : Frames) → Framed φ ok δ → Data_taken p g.size → Each (Okay In (more (Meant k g) ok)) 0 p → Formed p → Plain_given g → (before τ : Found) → data_met (wants (g ∷ gs) φ (Fun k p r) σ) before ≡ Ok τ
-        → (Framed (opened_by gs g σ k φ) (more (Meant k g) ok) (pushed (frame (here gs) σ.next k (number_value g)) δ) → (first : Found) → data_met (wants gs (opened_by gs g σ k φ) r (after gs g σ k)) first ≡ Ok τ → Reads gs (opened_by gs g σ k φ) r (after gs g σ k) τ × Kept first τ)
-        → Reads (g ∷ gs) φ (Fun k p r) σ τ × Kept before τ
+    one_met_more : (gs : List Given) (g : Given) (φ : Opened) (k : ℕ) (p r : Size) (σ : Found) (ok : ℕ → ℕ → Type 0) (δ : Frames) → Framed φ ok δ → Data_taken p g.size → Each (Okay In (more (Meant k g) ok)) 0 p → Formed p → Plain_given g → (before τ υ : Found) → Extends τ υ → data_met (wants (g ∷ gs) φ (Fun k p r) σ) before ≡ Ok τ
+        → (Framed (opened_by gs g σ k φ) (more (Meant k g) ok) (pushed (frame (here gs) σ.next k (number_value g)) δ) → (first : Found) → data_met (wants gs (opened_by gs g σ k φ) r (after gs g σ k)) first ≡ Ok τ → Reads gs (opened_by gs g σ k φ) r (after gs g σ k) υ × Kept first τ)
+        → Reads (g ∷ gs) φ (Fun k p r) σ υ × Kept before τ
     unfolding data_met
-    one_met_more gs g φ k p r σ ok δ fr ((dp, same), dg) ep fp a before τ q go =
+    one_met_more gs g φ k p r σ ok δ fr ((dp, same), dg) ep fp a before τ υ further q go =
         let now : then_do (meet (here gs) data_way g.node (opened_by gs g σ k φ) p none_opened g.size (made_at (here gs) before)) (λ found. data_met (wants gs (opened_by gs g σ k φ) r (after gs g σ k)) found) ≡ Ok τ =
         ap (λ b. then_do (cond b (Ok before) (meet (here gs) data_way g.node (opened_by gs g σ k φ) p none_opened g.size (made_at (here gs) before))) (λ found. data_met (wants gs (opened_by gs g σ k φ) r (after gs g σ k)) found)) (sym (no_function g.size dg)) ∙ q in
         let x = then_ok (meet (here gs) data_way g.node (opened_by gs g σ k φ) p none_opened g.size (made_at (here gs) before)) now in
@@ -500,7 +509,7 @@ module _ (n : ℕ) where
         let reads = met_reads (here gs) g.node (opened_by gs g σ k φ) p g.size (made_at (here gs) before) x.first dp dg fp a.0 opened given_settled same x.done in
         let stays : Stays P settled (made_at (here gs) before) x.first = met_stays P settled (here gs) g.node (opened_by gs g σ k φ) p g.size (made_at (here gs) before) x.first dp dg a.1 x.done in
         let rest = go framed x.first x.rest in (
-          (read_still (here gs) g.node (opened_by gs g σ k φ) x.first τ rest.1.extends p dp opened (subst (λ w. Each (Scoped Is_settled) 0 w) (sym reads.0) given_settled) ∙ reads.0, rest.0),
+          (read_still (here gs) g.node (opened_by gs g σ k φ) x.first υ (λ j d s z. further j d s (rest.1.extends j d s z)) p dp opened (subst (λ w. Each (Scoped Is_settled) 0 w) (sym reads.0) given_settled) ∙ reads.0, rest.0),
           record {
             extends = λ j d s z. rest.1.extends j d s (reads.1 j d s z);
             slots = λ w. rest.1.slots (stays.0 w);
@@ -510,28 +519,28 @@ module _ (n : ℕ) where
         )
 
     -- a function is no data
-    one_met_function : (gs : List Given) (g : Given) (φ : Opened) (k : ℕ) (p r : Size) (σ : Found) (ok : ℕ → ℕ → Type 0) (δ : Frames) → Framed φ ok δ → Function_taken p g.size → (before τ : Found) → data_met (wants (g ∷ gs) φ (Fun k p r) σ) before ≡ Ok τ
-        → (Framed (opened_by gs g σ k φ) (more (Meant k g) ok) (pushed (frame (here gs) σ.next k (number_value g)) δ) → data_met (wants gs (opened_by gs g σ k φ) r (after gs g σ k)) before ≡ Ok τ → Reads gs (opened_by gs g σ k φ) r (after gs g σ k) τ × Kept before τ)
-        → Reads (g ∷ gs) φ (Fun k p r) σ τ × Kept before τ
+    one_met_function : (gs : List Given) (g : Given) (φ : Opened) (k : ℕ) (p r : Size) (σ : Found) (ok : ℕ → ℕ → Type 0) (δ : Frames) → Framed φ ok δ → Function_taken p g.size → (before τ υ : Found) → data_met (wants (g ∷ gs) φ (Fun k p r) σ) before ≡ Ok τ
+        → (Framed (opened_by gs g σ k φ) (more (Meant k g) ok) (pushed (frame (here gs) σ.next k (number_value g)) δ) → data_met (wants gs (opened_by gs g σ k φ) r (after gs g σ k)) before ≡ Ok τ → Reads gs (opened_by gs g σ k φ) r (after gs g σ k) υ × Kept before τ)
+        → Reads (g ∷ gs) φ (Fun k p r) σ υ × Kept before τ
     unfolding data_met
-    one_met_function gs g φ k p r σ ok δ fr f before τ q go =
+    one_met_function gs g φ k p r σ ok δ fr f before τ υ q go =
         let framed : Framed (opened_by gs g σ k φ) (more (Meant k g) ok) (pushed (frame (here gs) σ.next k (number_value g)) δ) = push_framed φ ok δ (applied_frame (here gs) σ.next k (early g)) (frame (here gs) σ.next k (number_value g)) (Meant k g) (framed_as (here gs) σ.next k g) fr in
         let rest = go framed (ap (λ b. then_do (cond b (Ok before) (meet (here gs) data_way g.node (opened_by gs g σ k φ) p none_opened g.size (made_at (here gs) before))) (λ found. data_met (wants gs (opened_by gs g σ k φ) r (after gs g σ k)) found)) (sym f.is_fun) ∙ q) in
-        ((function_read τ (opened_by gs g σ k φ) p g.size f, rest.0), rest.1)
+        ((function_read υ (opened_by gs g σ k φ) p g.size f, rest.0), rest.1)
 
-    pub met_all : (gs : List Given) (φ : Opened) (t : Size) (σ : Found) (ok : ℕ → ℕ → Type 0) (δ : Frames) → Framed φ ok δ → Takes_all gs t → Each (Okay In ok) 0 t → Formed t → All_plain gs → (before τ : Found) → data_met (wants gs φ t σ) before ≡ Ok τ → Reads gs φ t σ τ × Kept before τ
+    pub met_all : (gs : List Given) (φ : Opened) (t : Size) (σ : Found) (ok : ℕ → ℕ → Type 0) (δ : Frames) → Framed φ ok δ → Takes_all gs t → Each (Okay In ok) 0 t → Formed t → All_plain gs → (before τ υ : Found) → Extends τ υ → data_met (wants gs φ t σ) before ≡ Ok τ → Reads gs φ t σ υ × Kept before τ
     unfolding data_met Each Formed
-    met_all [] φ t σ ok δ fr h e f a before τ q = (tt, subst (Kept before) (same_ok q) (record { extends = λ j d s z. z; slots = λ k. k; maker = λ i l. refl; next = refl }))
-    met_all (g ∷ gs) φ (Fun k p r) σ ok δ fr h e f a before τ q =
+    met_all [] φ t σ ok δ fr h e f a before τ υ further q = (tt, subst (Kept before) (same_ok q) (record { extends = λ j d s z. z; slots = λ k. k; maker = λ i l. refl; next = refl }))
+    met_all (g ∷ gs) φ (Fun k p r) σ ok δ fr h e f a before τ υ further q =
         let w = step_in In ok k p r g f a.0.0 (taken_typed p g.size h.0) e in
-        by_kind h.0 w.0 (λ framed first z. met_all gs (opened_by gs g σ k φ) r (after gs g σ k) (more (Meant k g) ok) (pushed (frame (here gs) σ.next k (number_value g)) δ) framed h.1 w.1 f.1 a.1 first τ z)
+        by_kind h.0 w.0 (λ framed first z. met_all gs (opened_by gs g σ k φ) r (after gs g σ k) (more (Meant k g) ok) (pushed (frame (here gs) σ.next k (number_value g)) δ) framed h.1 w.1 f.1 a.1 first τ υ further z)
       where
         by_kind : Taken_by p g.size → Each (Okay In (more (Meant k g) ok)) 0 p
-            → (Framed (opened_by gs g σ k φ) (more (Meant k g) ok) (pushed (frame (here gs) σ.next k (number_value g)) δ) → (first : Found) → data_met (wants gs (opened_by gs g σ k φ) r (after gs g σ k)) first ≡ Ok τ → Reads gs (opened_by gs g σ k φ) r (after gs g σ k) τ × Kept first τ)
-            → Reads (g ∷ gs) φ (Fun k p r) σ τ × Kept before τ
-        by_kind (inl d) ep go = one_met_more gs g φ k p r σ ok δ fr d ep f.0 a.0 before τ q go
-        by_kind (inr d) ep go = one_met_function gs g φ k p r σ ok δ fr d before τ q (λ framed z. go framed before z)
-    met_all (g ∷ gs) φ (Hole v) σ ok δ fr h e f a before τ q = absurd h
-    met_all (g ∷ gs) φ (Open m v u) σ ok δ fr h e f a before τ q = absurd h
-    met_all (g ∷ gs) φ (Level d t) σ ok δ fr h e f a before τ q = absurd h
-    met_all (g ∷ gs) φ (Built b ts) σ ok δ fr h e f a before τ q = absurd h
+            → (Framed (opened_by gs g σ k φ) (more (Meant k g) ok) (pushed (frame (here gs) σ.next k (number_value g)) δ) → (first : Found) → data_met (wants gs (opened_by gs g σ k φ) r (after gs g σ k)) first ≡ Ok τ → Reads gs (opened_by gs g σ k φ) r (after gs g σ k) υ × Kept first τ)
+            → Reads (g ∷ gs) φ (Fun k p r) σ υ × Kept before τ
+        by_kind (inl d) ep go = one_met_more gs g φ k p r σ ok δ fr d ep f.0 a.0 before τ υ further q go
+        by_kind (inr d) ep go = one_met_function gs g φ k p r σ ok δ fr d before τ υ q (λ framed z. go framed before z)
+    met_all (g ∷ gs) φ (Hole v) σ ok δ fr h e f a before τ υ further q = absurd h
+    met_all (g ∷ gs) φ (Open m v u) σ ok δ fr h e f a before τ υ further q = absurd h
+    met_all (g ∷ gs) φ (Level d t) σ ok δ fr h e f a before τ υ further q = absurd h
+    met_all (g ∷ gs) φ (Built b ts) σ ok δ fr h e f a before τ υ further q = absurd h

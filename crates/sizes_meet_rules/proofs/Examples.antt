@@ -5,6 +5,7 @@ use Rattle.fut_ast.specs.declared.node.End.TheVariants as end
 use Rattle.fut_scalar.specs.declared.place.Place.{Place}
 use Rattle.fut_scalar.specs.declared.scalar.ScalarType.TheVariants as scalar
 use Rattle.fut_scalar.specs.declared.scalar.IntType.TheVariants as int
+use Rattle.fut_flat.specs.declared.prim.Folding.TheVariants as folding
 use Rattle.fut_flat.specs.declared.prim.Primitive.{Primitive}
 use Rattle.fut_flat.specs.declared.prim.Primitive.TheVariants as prim
 use Rattle.fut_flat.specs.declared.prim.Ref.TheVariants as ref
@@ -299,7 +300,7 @@ row_homes n = cond (nat_eq n 5) 6 1
 
 rows_plain : Plain_term row_types row_homes K kind.Data N by_rows 0
 unfolding Formed_type Formed_types Flat_type Flat_types rank least
-rows_plain = ((refl, tt, omega arith, tt), (inl (omega arith), (inl (omega arith, (inr (inr (refl, omega arith, tt)), ((refl, tt, omega arith, tt), (inl (omega arith), (inl (omega arith, tt), inl refl))))), inl refl)))
+rows_plain = ((refl, tt, omega arith, tt), (inl (omega arith), (inl (omega arith, (inr (inr (refl, inl (omega arith), tt)), ((refl, tt, omega arith, tt), (inl (omega arith), (inl (omega arith, tt), inl refl))))), inl refl)))
 
 abbrev rows_part : Answer (Done Part)
 rows_part = sized N row_types by_rows [] 0 nothing no_state
@@ -313,6 +314,32 @@ its_rows = refl
 
 rows_rules : (u : Done Size) → Typed N kind.Data by_rows 0 no_types K row_types → rows_size ≡ Ok u → Sized N row_types u.state.nodes row_homes by_rows 0 nothing_known
 rows_rules u t e = let x = then_ok rows_part e in (sizing_meets_rules N row_types row_homes K kind.Data by_rows 0 no_state x.first u (omega arith) rows_plain t x.done x.rest).0
+
+-- ---- a primitive that takes a row: `\xss -> map i64.sum xss`
+
+abbrev sums : FlatTerm
+sums = Lambda (pattern_and (Bound_pattern (b 4)) no_pattern) (Apply (Apply (primitive prim.Map) (primitive (prim.Fold folding.Sum int.I64))) (named 4))
+
+-- 2 is the application of `map`, 5 the use of `i64.sum`
+abbrev sum_types : Sub
+sum_types n = cond (is_any (0 ∷ 3 ∷ []) n) (fun_ty rows (array_ty i64_ty)) (cond (is_any (1 ∷ 6 ∷ []) n) rows (cond (nat_eq n 4) (fun_ty (fun_ty (array_ty i64_ty) i64_ty) (fun_ty rows (array_ty i64_ty))) (cond (nat_eq n 5) (fun_ty (array_ty i64_ty) i64_ty) (array_ty i64_ty))))
+
+sums_plain : Plain_term sum_types home K kind.Data N sums 0
+unfolding Formed_type Formed_types Flat_type Flat_types rank least
+sums_plain = ((refl, tt, omega arith, tt), (inl (omega arith), (inl (omega arith, (inr (inr (refl, inr (omega arith, inl (tt, tt)), tt)), tt)), inl refl)))
+
+abbrev sums_part : Answer (Done Part)
+sums_part = sized N sum_types sums [] 0 nothing no_state
+
+abbrev sums_size : Answer (Done Size)
+sums_size = then_do sums_part (λ d. finished N sum_types 0 d.result d.state)
+
+its_sums : then_do sums_size (λ d. Ok d.result) ≡ Ok (Fun 2 (Level (Bound 0 0) (Level (Bound 0 1) (scalar_size (scalar.Int int.I64)))) (Level (Bound 0 0) (scalar_size (scalar.Int int.I64))))
+unfolding agree all_agree kept all_kept leaving type_levels all_type_levels of_type of_types all_settled parts_settled data_met functions_met all_matched applied collected all_collected sizes_in function_size chosen_in quantified closed filled all_filled read all_read opened_inside compared all_compared meet all_meet elements_agree slice_size indexed updated operation sized_type prim_size sizing type_of type_in instance instances used taken all_taken fields_taken bound_by erased all_erased is_free is_dim levels all_levels levels_within all_levels_within replaced all_replaced has some_has takes some_takes is_open some_open matched lacking all_lacking differing all_differing turns_from pattern_noted patterns_noted fields_noted sized all_sized turns_sized condition_sized right_sized inner_sized part_of changed_part has_sizes all_have_sizes fields_have_sizes with_sizes all_with_sizes fields_with_sizes ascribed coerced coercion parameter_size declared
+its_sums = refl
+
+sums_rules : (u : Done Size) → Typed N kind.Data sums 0 no_types K sum_types → sums_size ≡ Ok u → Sized N sum_types u.state.nodes home sums 0 nothing_known
+sums_rules u t e = let x = then_ok sums_part e in (sizing_meets_rules N sum_types home K kind.Data sums 0 no_state x.first u (omega arith) sums_plain t x.done x.rest).0
 
 -- ---- a definition that is a number, and one that takes it as a size: `def n = 10` and `def main x = 0..<n`
 

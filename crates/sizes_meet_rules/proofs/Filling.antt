@@ -14,7 +14,7 @@ use Rattle.fut_sizes.specs.Rules.{Each_hole, Each_holes, filled as with_types, a
 use Rattle.fut_sizes.specs.Scopes.{instance, instances}
 use Rattle.fut_sizes.specs.Suiting.{Each, Each_all, Scoped, Data, All_data}
 use Rattle.sizes_meet_rules.specs.Known.{Is_made, Formed, All_formed}
-use Rattle.sizes_meet_rules.proofs.Applying.{no_function, read_settled}
+use Rattle.sizes_meet_rules.proofs.Applying.{Slots, stays_put, no_function, read_settled}
 use Rattle.sizes_meet_rules.proofs.Chains.{Given, here, opened_by, after, wants, last_found}
 use Rattle.sizes_meet_rules.proofs.Meeting.{then_ok, same_ok, refused_ok, each_scoped}
 use Rattle.sizes_meet_rules.proofs.Reading.{found_settled, put_settled, settled_met, slot_met}
@@ -250,19 +250,21 @@ module _ (n : ℕ) (types : Variable → Ty) (P : Free → Type 0) (settled : (d
   pub record As_met (ok : Variable → Bool) (σ τ : Found) (other : (Variable → Size) → Found → Answer Found) : Type 0 where
     pub taking : Taking τ
     pub stays : Stays σ τ
+    pub slots : Slots P settled σ → Slots P settled τ
     pub here : (v : Variable) → ok v ≡ true → Taken_at τ v
     pub given : (Θ : Variable → Size) (υ : Found) → Agrees Θ τ → Same σ υ → Given_met τ (other Θ υ)
 
-  abbrev no_variable : Variable → Bool
+  abbrev pub no_variable : Variable → Bool
   no_variable v = false
 
   same_as : (σ τ : Found) (other : (Variable → Size) → Found → Answer Found) → ◌≡◌ {A = Answer Found} (Ok σ) (Ok τ) → Taking σ → ((Θ : Variable → Size) (υ : Found) → Same σ υ → other Θ υ ≡ Ok υ) → As_met no_variable σ τ other
-  same_as σ τ other q t f = subst (λ (x : Found). As_met no_variable σ x other) (same_ok q) (record { taking = t; stays = λ v e. refl; here = λ v e. absurd (let z : false ≡ true = e in cc); given = λ Θ υ a s. record { found = υ; answer = f Θ υ s; same = s } })
+  same_as σ τ other q t f = subst (λ (x : Found). As_met no_variable σ x other) (same_ok q) (record { taking = t; stays = λ v e. refl; slots = λ k. k; here = λ v e. absurd (let z : false ≡ true = e in cc); given = λ Θ υ a s. record { found = υ; answer = f Θ υ s; same = s } })
 
   as_then : (okA okB : Variable → Bool) (σ τ υ : Found) (x : (Variable → Size) → Found → Answer Found) (f : (Variable → Size) → Found → Answer Found) → As_met okA σ τ x → (Taking τ → As_met okB τ υ f) → As_met (λ v. okA v || okB v) σ υ (λ Θ ξ. then_do (x Θ ξ) (f Θ))
   as_then okA okB σ τ υ x f A go = record {
     taking = B.taking;
     stays = λ v e. B.stays v (stays_taken σ τ A.stays v e) ∙ A.stays v e;
+    slots = λ k. B.slots (A.slots k);
     here = λ v e. by_side v (okA v) refl e;
     given = λ Θ ξ a s. given Θ ξ a s;
   }
@@ -281,7 +283,7 @@ module _ (n : ℕ) (types : Variable → Ty) (P : Free → Type 0) (settled : (d
           record { found = D.found; answer = ap (λ y. then_do y (f Θ)) C.answer ∙ D.answer; same = D.same }
 
   as_other : (ok ok' : Variable → Bool) (σ τ : Found) (x : (Variable → Size) → Found → Answer Found) → ((v : Variable) → ok' v ≡ true → ok v ≡ true) → As_met ok σ τ x → As_met ok' σ τ x
-  as_other ok ok' σ τ x w A = record { taking = A.taking; stays = A.stays; here = λ v e. A.here v (w v e); given = A.given }
+  as_other ok ok' σ τ x w A = record { taking = A.taking; stays = A.stays; slots = A.slots; here = λ v e. A.here v (w v e); given = A.given }
 
   pub size_same : (σ υ : Found) → Same σ υ → (d : Free) → found_size υ d ≡ found_size σ d
   size_same σ υ s (Slot i) = ap (λ (f : ℕ → Free). f i) (sym s.size)
@@ -297,26 +299,27 @@ module _ (n : ℕ) (types : Variable → Ty) (P : Free → Type 0) (settled : (d
       by_same true f z = same_as σ τ (λ Θ υ. meet_size data_way at y e υ) z t (λ Θ υ s. settled_met at υ y e a b ∙ ap (λ c. cond c (Ok υ) (Err (Mismatch at (At y) (At e)))) f)
       by_same false f z = refused_ok z
 
-  free_as : (at : ℕ) (σ τ : Found) (y e : Free) → is_slot e ≡ false → Taking σ → meet_size data_way at y e σ ≡ Ok τ → As_met no_variable σ τ (λ Θ υ. meet_size data_way at y e υ)
-  free_as at σ τ (Slot i) e b t q = subst (λ (x : Found). As_met no_variable σ x (λ Θ υ. meet_size data_way at (Slot i) e υ)) (same_ok (sym (slot_met at i σ e b) ∙ q)) (record {
+  free_as : (at : ℕ) (σ τ : Found) (y e : Free) → P e → Taking σ → meet_size data_way at y e σ ≡ Ok τ → As_met no_variable σ τ (λ Θ υ. meet_size data_way at y e υ)
+  free_as at σ τ (Slot i) e b t q = subst (λ (x : Found). As_met no_variable σ x (λ Θ υ. meet_size data_way at (Slot i) e υ)) (same_ok (sym (slot_met at i σ e (settled e b)) ∙ q)) (record {
     taking = sized_taking i e σ t;
     stays = λ v z. nice_put v (σ.type n v (types v)) i e z;
+    slots = (stays_put P settled i e σ b).0;
     here = λ v z. absurd (let w : false ≡ true = z in cc);
-    given = λ Θ υ a s. record { found = size_found i e υ; answer = slot_met at i υ e b; same = record { size = ap {B = ℕ → Free} (λ (f : ℕ → Free) (j : ℕ). put i e (f j)) s.size; next = s.next; maker = s.maker } };
+    given = λ Θ υ a s. record { found = size_found i e υ; answer = slot_met at i υ e (settled e b); same = record { size = ap {B = ℕ → Free} (λ (f : ℕ → Free) (j : ℕ). put i e (f j)) s.size; next = s.next; maker = s.maker } };
   })
-  free_as at σ τ (Const c) e b t q = settled_as at σ τ (Const c) e refl b t q
-  free_as at σ τ (Name c) e b t q = settled_as at σ τ (Name c) e refl b t q
-  free_as at σ τ (Own m c) e b t q = settled_as at σ τ (Own m c) e refl b t q
-  free_as at σ τ (Unknown m c) e b t q = settled_as at σ τ (Unknown m c) e refl b t q
+  free_as at σ τ (Const c) e b t q = settled_as at σ τ (Const c) e refl (settled e b) t q
+  free_as at σ τ (Name c) e b t q = settled_as at σ τ (Name c) e refl (settled e b) t q
+  free_as at σ τ (Own m c) e b t q = settled_as at σ τ (Own m c) e refl (settled e b) t q
+  free_as at σ τ (Unknown m c) e b t q = settled_as at σ τ (Unknown m c) e refl (settled e b) t q
 
   as_same : (ok : Variable → Bool) (σ τ : Found) (x y : (Variable → Size) → Found → Answer Found) → ((Θ : Variable → Size) (υ : Found) → Same σ υ → x Θ υ ≡ y Θ υ) → As_met ok σ τ x → As_met ok σ τ y
-  as_same ok σ τ x y e A = record { taking = A.taking; stays = A.stays; here = A.here; given = λ Θ υ a s. let C = A.given Θ υ a s in record { found = C.found; answer = sym (e Θ υ s) ∙ C.answer; same = C.same } }
+  as_same ok σ τ x y e A = record { taking = A.taking; stays = A.stays; slots = A.slots; here = A.here; given = λ Θ υ a s. let C = A.given Θ υ a s in record { found = C.found; answer = sym (e Θ υ s) ∙ C.answer; same = C.same } }
 
-  dims_as : (at : ℕ) (σ τ : Found) (x : Dim) (e : Free) → is_slot e ≡ false → Taking σ → meet_dims data_way at x (At e) σ ≡ Ok τ → As_met no_variable σ τ (λ Θ υ. meet_dims data_way at x (At e) υ)
+  pub dims_as : (at : ℕ) (σ τ : Found) (x : Dim) (e : Free) → P e → Taking σ → meet_dims data_way at x (At e) σ ≡ Ok τ → As_met no_variable σ τ (λ Θ υ. meet_dims data_way at x (At e) υ)
   dims_as at σ τ (Bound k i) e b t q = same_as σ τ (λ Θ υ. meet_dims data_way at (Bound k i) (At e) υ) q t (λ Θ υ s. refl)
   dims_as at σ τ (At d) e b t q = as_same no_variable σ τ (λ Θ υ. meet_size data_way at (found_size σ d) e υ) (λ Θ υ. meet_dims data_way at (At d) (At e) υ)
-      (λ Θ υ s. sym (ap (λ (y : Free). meet_size data_way at y (found_size υ e) υ) (size_same σ υ s d) ∙ ap (λ (y : Free). meet_size data_way at (found_size σ d) y υ) (found_settled υ e b)))
-      (free_as at σ τ (found_size σ d) e b t (ap (λ (y : Free). meet_size data_way at (found_size σ d) y σ) (sym (found_settled σ e b)) ∙ q))
+      (λ Θ υ s. sym (ap (λ (y : Free). meet_size data_way at y (found_size υ e) υ) (size_same σ υ s d) ∙ ap (λ (y : Free). meet_size data_way at (found_size σ d) y υ) (found_settled υ e (settled e b))))
+      (free_as at σ τ (found_size σ d) e b t (ap (λ (y : Free). meet_size data_way at (found_size σ d) y σ) (sym (found_settled σ e (settled e b))) ∙ q))
 
   -- a variable takes a sized type, or has it already
   with_any : (v : Variable) (t : Size) (σ : Found) → Nice v t → with_any_sizes σ t ≡ t
@@ -365,6 +368,7 @@ module _ (n : ℕ) (types : Variable → Ty) (P : Free → Type 0) (settled : (d
         by_form (inl z) e = subst (λ (x : Found). As_met (λ w. is_variable w v) σ x (λ Θ υ. meet lo data_way at φ (Θ v) none_opened t υ)) (same_ok (sym (ap (λ x. Ok (type_found n v x σ)) (with_any v t σ h)) ∙ sym (takes_it at v v t σ h) ∙ ap (λ x. meet_variable true data_way at x t σ) (sym z) ∙ e)) (record {
           taking = typed_taking v t σ f h k;
           stays = λ w y. nothing_filled n v t (σ.type n w (types w)) y.is_data;
+          slots = λ k. k;
           here = λ w y. same_variable first (taken_now z) w y;
           given = λ Θ υ a s. record { found = υ; answer = meets Θ υ (sym (a v (taken_now z)) ∙ now_taken v t σ z); same = record { size = s.size; next = s.next; maker = s.maker } };
         })
@@ -373,6 +377,7 @@ module _ (n : ℕ) (types : Variable → Ty) (P : Free → Type 0) (settled : (d
             subst (λ (x : Found). As_met (λ w. is_variable w v) σ x (λ Θ υ. meet lo data_way at φ (Θ v) none_opened t υ)) (sym c.1) (record {
               taking = k;
               stays = λ w y. refl;
+              slots = λ s. s;
               here = λ w y. same_variable σ z w y;
               given = λ Θ υ a s. record { found = υ; answer = meets Θ υ (sym (a v z) ∙ c.0); same = s };
             })
@@ -393,7 +398,7 @@ module _ (n : ℕ) (types : Variable → Ty) (P : Free → Type 0) (settled : (d
       met_as (Level d p) (Level (At e) t) σ τ dp fp hp dt ft st vt z k q =
           let r = then_ok (meet_dims data_way at (dim_in φ 0 d) (At e) σ) q in
           as_other (λ v. false || has_hole p v) (has_hole p) σ τ (λ Θ υ. meet lo data_way at φ (Level d (given_types Θ p)) none_opened (Level (At e) t) υ) (λ v y. y)
-          (as_then no_variable (has_hole p) σ r.first τ (λ Θ υ. meet_dims data_way at (dim_in φ 0 d) (At e) υ) (λ Θ found. meet lo data_way at φ (given_types Θ p) none_opened t found) (dims_as at σ r.first (dim_in φ 0 d) e (settled e st.0) k r.done)
+          (as_then no_variable (has_hole p) σ r.first τ (λ Θ υ. meet_dims data_way at (dim_in φ 0 d) (At e) υ) (λ Θ found. meet lo data_way at φ (given_types Θ p) none_opened t found) (dims_as at σ r.first (dim_in φ 0 d) e st.0 k r.done)
           (λ k1. met_as p t r.first τ dp fp hp dt ft st.1 vt (let y : Made head.Array (more (erased (opened p)) none) ≡ Made head.Array (more (erased t) none) = z in cc) k1 r.rest))
       met_as (Built h ps) (Hole w) σ τ dp fp hp dt ft st vt z k q = absurd (not_variable w h (all_erased (instances n types ps)) fp.0 (sym z))
       met_as (Built h ps) (Level e t) σ τ dp fp hp dt ft st vt z k q = absurd (subst Is_made (head_same z) fp.0)
@@ -436,6 +441,7 @@ module _ (n : ℕ) (types : Variable → Ty) (P : Free → Type 0) (settled : (d
     pub record Chain_as (gs : List Given) (φ : Opened) (t : Size) (σ before τ : Found) : Type 0 where
       pub taking : Taking τ
       pub stays : Stays before τ
+      pub slots : Slots P settled before → Slots P settled τ
       pub data_taken : (v : Variable) → data_holes t v ≡ true → Taken_at τ v
       pub given : (Θ : Variable → Size) (υ : Found) → Agrees Θ τ → Same before υ → Given_met τ (data_met (wants lo gs φ (given_types Θ t) σ) υ)
 
@@ -453,6 +459,7 @@ module _ (n : ℕ) (types : Variable → Ty) (P : Free → Type 0) (settled : (d
         record {
           taking = R.taking;
           stays = λ v e. R.stays v (stays_taken (made_at (here lo gs) before) x.first A.stays v e) ∙ A.stays v e;
+          slots = λ s. R.slots (A.slots s);
           data_taken = λ v e. by_place x.first R.stays R.data_taken A.here v (has_hole p v) refl e;
           given = λ Θ υ b s.
               let C = A.given Θ (made_at (here lo gs) υ) (agrees_before Θ x.first τ R.stays b) (made_same (here lo gs) before υ s) in
@@ -479,6 +486,7 @@ module _ (n : ℕ) (types : Variable → Ty) (P : Free → Type 0) (settled : (d
         record {
           taking = R.taking;
           stays = R.stays;
+          slots = R.slots;
           data_taken = λ v e. R.data_taken v (ap (λ b. b || data_holes r v) (sym (no_hole p v ar)) ∙ e);
           given = λ Θ υ b s.
               let D = R.given Θ υ b s in
@@ -494,6 +502,7 @@ module _ (n : ℕ) (types : Variable → Ty) (P : Free → Type 0) (settled : (d
     chain_as [] φ t σ before τ a f h c q = subst (λ (x : Found). Chain_as [] φ t σ before x) (same_ok q) (record {
       taking = c;
       stays = λ v e. refl;
+      slots = λ s. s;
       data_taken = λ v e. absurd (none_there t v a e);
       given = λ Θ υ b s. record { found = υ; answer = refl; same = s };
     })

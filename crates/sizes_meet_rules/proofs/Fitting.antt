@@ -218,7 +218,7 @@ module _ (at : ℕ) (w : Way) where
         (ap (λ f. size_and f xs) a.0 ∙ ap (size_and t) b.0, b.1 ∙ a.1)
 
 -- what a variable has taken is compared
-taken_compared : (b : Bool) (w : Way) (at : ℕ) (x t : Size) (σ : Found) → Data x → meet_variable b w at x t σ ≡ compared (record { left_wanted = b; in_result = w.in_result; regular = w.regular }) at x t σ
+pub taken_compared : (b : Bool) (w : Way) (at : ℕ) (x t : Size) (σ : Found) → Data x → meet_variable b w at x t σ ≡ compared (record { left_wanted = b; in_result = w.in_result; regular = w.regular }) at x t σ
 unfolding Data
 taken_compared b w at (Hole v) t σ d = refl
 taken_compared b w at (Open n v u) t σ d = absurd d
@@ -436,7 +436,7 @@ module _ (n : ℕ) (types : Variable → Ty) (P : Free → Type 0) (settled : (d
   scalar_met lo at w φ χ s (Fun l a b) i σ τ k says typed q = absurd (let z : fun_ty (erased a) (erased b) ≡ Made (head.Scalar s) none = typed in cc)
 
   -- a test that is not met
-  irregular_ok : (regular : Bool) (b : Bool) (at : ℕ) (x : Answer Found) (τ : Found) → cond (regular && b) (Err (Irregular at)) x ≡ Ok τ → (regular ≡ true → b ≡ false) × (x ≡ Ok τ)
+  pub irregular_ok : (regular : Bool) (b : Bool) (at : ℕ) (x : Answer Found) (τ : Found) → cond (regular && b) (Err (Irregular at)) x ≡ Ok τ → (regular ≡ true → b ≡ false) × (x ≡ Ok τ)
   irregular_ok true true at x τ q = refused_ok q
   irregular_ok true false at x τ q = ((λ e. refl), q)
   irregular_ok false b at x τ q = ((λ e. absurd (let z : false ≡ true = e in cc)), q)

@@ -9,7 +9,7 @@ use Rattle.fut_flat.specs.Erased.{FlatTerm}
 use Rattle.fut_types.specs.Types.{Ty, fun_ty, Sub, Kinds, rank, applied}
 use Rattle.fut_typing.specs.Names.{Names}
 use Rattle.fut_typing.specs.Primitives.{prim_type}
-use Rattle.sized_types.specs.Sizes.{Free, Variable, Size, erased}
+use Rattle.sized_types.specs.Sizes.{Free, Unknown, Variable, Size, erased}
 use Rattle.fut_sizes.specs.Applications.{Want, Met, Applied}
 use Rattle.fut_sizes.specs.Functions.{is_slot}
 use Rattle.fut_sizes.specs.Matching.{Found, nothing_found, made_at, none_opened}
@@ -19,14 +19,16 @@ use Rattle.fut_sizes.specs.Scopes.{Scope, instance, used}
 use Rattle.fut_sizes.specs.Scoping.{Context}
 use Rattle.fut_sizes.specs.Sizing.{finished}
 use Rattle.fut_sizes.specs.Steps.{State, Done}
-use Rattle.fut_sizes.specs.Suiting.{suits_same}
+use Rattle.fut_sizes.specs.Suiting.{Free_of, suits_same}
 use Rattle.sizes_meet_rules.specs.Known.{Says, Known_name, Judged}
-use Rattle.sizes_meet_rules.proofs.Chains.{Given, Waiting_given, here, arguments, arrows_of, Takes_all, Has_arrows, Widths, takes_arrows, All_kinds, data_kinds as kinds_of_data, last_found, no_function_met, Steps_ran, Matched_ran, steps_ran, data_ran}
+use Rattle.sizes_meet_rules.proofs.Chains.{Given, Waiting_given, Named_given, last_slots, here, arguments, arrows_of, Takes_all, Has_arrows, Widths, takes_arrows, All_kinds, data_kinds as kinds_of_data, last_found, no_function_met, Steps_ran, Matched_ran, steps_ran, data_ran}
 use Rattle.sizes_meet_rules.proofs.Fitting.{Gives_type, data_gives}
 use Rattle.sizes_meet_rules.proofs.Filling.{data_holes, lambda_holes, Taken_at, Agrees, stays_taken, Arrows, none_taken, Chain_as, chain_as}
 use Rattle.sizes_meet_rules.proofs.Alike.{Behind_data, Given_ran, given_ran}
 use Rattle.sizes_meet_rules.proofs.Lambdas.{wanted_of, found_behind, Wants_formed, Lambda_result, All_data_given, One_given, given_data, one_kinds, Kinds_taken, data_kinds, kinds_take, One_lambda, Lambda_met, lambda_ran, One_wide, wide_wants, wide_ran}
+use Rattle.sizes_meet_rules.proofs.Choosing.{Name_says}
 use Rattle.sizes_meet_rules.proofs.Meeting.{same_ok, says_more}
+use Rattle.sizes_meet_rules.proofs.Named.{named_found, named_size, Used_as, named_ran}
 use Rattle.sizes_meet_rules.proofs.Primitives.{parameter_holes, Prim_ok, prim_ok, types_there, prim_data, prim_lambda, prim_wide, prim_widths, prim_typed, prim_says}
 use Rattle.sizes_meet_rules.proofs.Replacing.{hole_as}
 use Rattle.sizes_meet_rules.proofs.Using.{use_rules}
@@ -71,7 +73,7 @@ module _ (N : Names) (types : Sub) (home : ℕ → ℕ) (K : Kinds) where
         pub says : Says P Vars size
         pub typed : erased size ≡ type
         pub takes : Takes_all gs size
-        pub ran : Matched_ran n N types gs size u
+        pub ran : Matched_ran n N types P gs size u
         pub ends : Ends ran.after
         pub rule : (m : ℕ) (s : ℕ → Size) (G : Context) → Judged In Vars scope G → s m ≡ size → Sized N types s home term m G
 
@@ -99,8 +101,8 @@ module _ (N : Names) (types : Sub) (home : ℕ → ℕ) (K : Kinds) where
             has : Has_arrows gs H.name.size
             has = takes_arrows gs H.name.size takes (subst (Widths gs) H.whole_is widths)
 
-            M : (M : Matched_ran n N types gs H.name.size u) × (M.after ≡ st)
-            M = data_ran n N types regular gs H.name.size st u has (given_data P Vars K types n gs D)
+            M : (M : Matched_ran n N types P gs H.name.size u) × (M.after ≡ st)
+            M = data_ran n N types P regular gs H.name.size st u has (given_data P Vars K types n gs D)
                 (steps_ran n N types regular gs H.name.size st u has (kinds_of_data n gs (given_data P Vars K types n gs D)) (ap (λ t. finished N types n (Applied t regular (arguments gs)) st) (sym H.whole_is) ∙ ran))
 
         module _ (H : Primitive_head) (result_data : 1 ≤ rank K result) where
@@ -157,7 +159,8 @@ module _ (N : Names) (types : Sub) (home : ℕ → ℕ) (K : Kinds) where
               data_behind none = record {
                 taking = C.taking;
                 stays = λ v e. refl;
-                size = refl;
+                extends = λ j d s z. z;
+                slots = λ i. inl refl;
                 later = omega arith;
                 makers = λ i l. refl;
                 taken = hole_as (λ v. parameter_holes prim_there v ≡ true) (λ v. Taken_at H.node there P settled Vars R.first v) (λ v e. C.data_taken v (of_data (data_holes prim_there v) (ap (λ b. data_holes prim_there v || b) (sym (none v)) ∙ e))) prim_there ok.covers;
@@ -182,7 +185,8 @@ module _ (N : Names) (types : Sub) (home : ℕ → ℕ) (K : Kinds) where
                 lambda_behind L = record {
                   taking = L.taking;
                   stays = L.stays;
-                  size = L.size;
+                  extends = L.extends;
+                  slots = L.slots;
                   later = L.later;
                   makers = L.makers;
                   taken = hole_as (λ v. parameter_holes prim_there v ≡ true) (λ v. Taken_at H.node there P settled Vars R.last.result v) (λ v e. by_place v (data_holes prim_there v) refl e) prim_there ok.covers;
@@ -212,6 +216,35 @@ module _ (N : Names) (types : Sub) (home : ℕ → ℕ) (K : Kinds) where
         resolved gives_it is_data D (inl H) = named_resolved gives_it D H
         resolved gives_it is_data D (inr H) = primitive_data H (is_data H) D
 
+    -- a primitive applied to a name, which is used at the sizes that are wanted of it, and to data
+    module _ (P : Free → Type 0) (wide : (d : Free) → In d → P d) (settled : (d : Free) → P d → is_slot d ≡ false) (n : ℕ) (x : Given) (gs : List Given) (st : State) (u : Done Size)
+        (result : Ty) (arrows : type ≡ arrows_of types (x ∷ gs) result) (widths : Widths (x ∷ gs) whole) (ran : finished N types n (Applied whole regular (arguments (x ∷ gs))) st ≡ Ok u) (H : Primitive_head) (result_data : 1 ≤ rank K result) where
+      abbrev there_types : Variable → Ty
+      there_types = types_there H.node H.primitive type H.given H.typed
+
+      abbrev there_size : Size
+      there_size = instance H.node there_types (prim_size H.primitive)
+
+      pub primitive_named : (V : Named_given x) → (a c : Ty) → types x.node ≡ fun_ty a c → All_data_given P Vars K types gs → Name_says P Vars 0 V.own → erased V.own ≡ types x.node → x.size ≡ named_size H.node there_types (prim_size H.primitive) (named_found n (is_regular H.primitive) x V.own gs there_size)
+          → ((b : ℕ) → P (Unknown (here n gs) b) → ⊥) → (fn fm : ℕ) → (fn ≡ fm → ⊥) → ((d : Free) → P d → Free_of fn d × Free_of fm d) → Resolved P wide settled n (x ∷ gs) st u (λ s. Used_as P Vars V.own x.size × (s ≡ st))
+      primitive_named V a c is D says own_typed size_is apart fn fm two fresh = as_given P wide settled n (x ∷ gs) st u result arrows widths ran H result_data A.0 R (λ s. Used_as P Vars V.own x.size × (s ≡ st)) (lambda_behind P wide settled n (x ∷ gs) st u result arrows widths ran H result_data A.0 R (Used_as P Vars V.own x.size) st L) L.is (L.went, L.state)
+        where
+          A : Arrows H.node there_types P settled Vars (x ∷ gs) (prim_size H.primitive) × One_wide H.node there_types P settled Vars K types (Used_as P Vars V.own x.size) st st n (data_holes (prim_size H.primitive)) (is_regular H.primitive) (x ∷ gs) (prim_size H.primitive)
+          A = prim_wide H.node H.primitive type H.given H.typed P settled Vars K H.kinds types x gs result result_data arrows (Used_as P Vars V.own x.size) st st n V.is_fun a c is D
+
+          kinds : All_kinds (x ∷ gs)
+          kinds = (inr (inr V), kinds_of_data n gs (given_data P Vars K types n gs D))
+
+          R : Steps_ran n N types (is_regular H.primitive) (x ∷ gs) there_size st u
+          R = steps P wide settled n (x ∷ gs) st u result arrows widths ran H result_data A.0 kinds
+
+          C : Chain_as H.node there_types P settled Vars n (x ∷ gs) none_opened (prim_size H.primitive) nothing_found (last_found n (x ∷ gs) there_size nothing_found) R.first
+          C = chain_as H.node there_types P settled Vars n (x ∷ gs) none_opened (prim_size H.primitive) nothing_found (last_found n (x ∷ gs) there_size nothing_found) R.first A.0 (prim_ok H.primitive).formed (prim_ok H.primitive).inferred (none_taken H.node there_types P settled Vars n (x ∷ gs) there_size nothing_found (λ v. inl refl)) R.met
+
+          L : Lambda_met H.node there_types P settled Vars K types (Used_as P Vars V.own x.size) st st n (data_holes (prim_size H.primitive)) (is_regular H.primitive) (x ∷ gs) (prim_size H.primitive) R.first R.last
+          L = named_ran H.node there_types P settled Vars K types (Used_as P Vars V.own x.size) st n (data_holes (prim_size H.primitive)) (is_regular H.primitive) x gs V (λ h. h) says own_typed a c is apart fn fm two fresh (prim_size H.primitive) R.first R.last size_is A.1
+              (has P wide settled n (x ∷ gs) st u result arrows widths ran H result_data A.0) C.taking (C.slots (last_slots n P P settled settled (x ∷ gs) there_size nothing_found (λ i. inl refl))) C.data_taken R.met R.functions
+
     -- a primitive applied to a lambda, which takes the parameters that are wanted of it, and to data, in which fewer sizes may stand
     module _ (P : Free → Type 0) (wide : (d : Free) → In d → P d) (settled : (d : Free) → P d → is_slot d ≡ false) (P' : Free → Type 0) (settled' : (d : Free) → P' d → is_slot d ≡ false) (n : ℕ) (x : Given) (gs : List Given) (st : State) (u : Done Size)
         (result : Ty) (arrows : type ≡ arrows_of types (x ∷ gs) result) (widths : Widths (x ∷ gs) whole) (ran : finished N types n (Applied whole regular (arguments (x ∷ gs))) st ≡ Ok u) (H : Primitive_head) (result_data : 1 ≤ rank K result) where
@@ -236,7 +269,7 @@ module _ (N : Names) (types : Sub) (home : ℕ → ℕ) (K : Kinds) where
           A' = prim_wide H.node H.primitive type H.given H.typed P' settled' Vars K H.kinds types x gs result result_data arrows Went st after n V.is_fun a c is D'
 
           kinds : All_kinds (x ∷ gs)
-          kinds = (inr V, kinds_of_data n gs (given_data P Vars K types n gs D))
+          kinds = (inr (inl V), kinds_of_data n gs (given_data P Vars K types n gs D))
 
           R : Steps_ran n N types (is_regular H.primitive) (x ∷ gs) opened_there st u
           R = steps P wide settled n (x ∷ gs) st u result arrows widths ran H result_data A.0 kinds

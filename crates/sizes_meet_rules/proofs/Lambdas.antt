@@ -4,7 +4,7 @@ use Rattle.fut_types.specs.declared.Head.TheVariants as head
 use Rattle.fut_types.specs.Types.{Ty, fun_ty, Sub, Kinds, rank}
 use Rattle.sized_types.specs.Sizes.{Free, Dim, Variable, Size, Hole, Open, Level, Built, Fun, no_size, size_and, erased, all_erased, replaced, all_replaced}
 use Rattle.fut_sizes.specs.Agreeing.{Answer, then_do}
-use Rattle.fut_sizes.specs.Applications.{Want, Met, is_function, is_arrow, data_met, functions_met}
+use Rattle.fut_sizes.specs.Applications.{Want, Met, Argument, Early, Late, is_function, is_arrow, data_met, functions_met}
 use Rattle.fut_sizes.specs.Functions.{is_slot}
 use Rattle.fut_sizes.specs.Matching.{Found, nothing_found, made_at, read, all_read, Opened, none_opened, dim_in, in_opened, data_way, function_way, meet}
 use Rattle.fut_sizes.specs.Rules.{Each_hole, filled as with_types}
@@ -18,12 +18,17 @@ use Rattle.sizes_meet_rules.proofs.Chains.{All_kinds, data_kinds as kinds_of_dat
 use Rattle.sizes_meet_rules.proofs.Filling.{Data_fit, function_holes, lambda_holes, Is_inferred, Taken_at, Taking, Stays, Agrees}
 use Rattle.sizes_meet_rules.proofs.Fitting.{Gives_type, gives, is_simple, is_wanted, Lambda_says, Function_met, simple_value, met_as, unread_met, each_alone}
 use Rattle.sizes_meet_rules.proofs.Meeting.{Then_ok, then_ok, Asked, asked, same_ok}
+use Rattle.sizes_meet_rules.proofs.Reading.{Extends}
 use Rattle.sizes_meet_rules.proofs.Replacing.{hole_as}
 use Rattle.sizes_meet_rules.proofs.Settling.{Is_settled, Any_variable}
 
 both_true : (a b : Bool) → a && b ≡ true → (a ≡ true) × (b ≡ true)
 both_true true b e = (refl, e)
 both_true false b e = absurd (let z : false ≡ true = e in cc)
+
+-- where no size is found
+same_extends : (σ τ : Found) → τ.size ≡ σ.size → Extends σ τ
+same_extends σ τ e j d s z = ap (λ (g : ℕ → Free). g j) e ∙ z
 
 -- what an application wants of a lambda among its arguments, once data is matched
 abbrev pub want_by : ℕ → Bool → Given → List Given → Opened → ℕ → Size → Found → Found → Want
@@ -88,7 +93,7 @@ pub one_kinds : (P : Free → Type 0) (Vars : Variable → Type 0) (K : Kinds) (
 one_kinds P Vars K sub Went st after [] d = tt
 one_kinds P Vars K sub Went st after (g ∷ gs) (inl d) = (inl d.0.0.1, one_kinds P Vars K sub Went st after gs d.1)
 one_kinds P Vars K sub Went st after (g ∷ gs) (inr (inr d)) = (inl d.1.waits, kinds_of_data 0 gs (given_data P Vars K sub 0 gs d.2))
-one_kinds P Vars K sub Went st after (g ∷ gs) (inr (inl d)) = (inr d.0.0.given, kinds_of_data 0 gs (given_data P Vars K sub 0 gs d.1))
+one_kinds P Vars K sub Went st after (g ∷ gs) (inr (inl d)) = (inr (inl d.0.0.given), kinds_of_data 0 gs (given_data P Vars K sub 0 gs d.1))
 
 -- each argument is data, or has the parameter's sized type
 abbrev pub Kinds_taken : (Free → Type 0) → (Variable → Type 0) → Kinds → Sub → List Given → Size → Type 0
@@ -201,13 +206,14 @@ module _ (n : ℕ) (types : Variable → Ty) (P : Free → Type 0) (settled : (d
         pub state : d.state ≡ after
         pub taking : Taking n types P settled Vars d.result
         pub stays : Stays n types P settled Vars before d.result
-        pub size : d.result.size ≡ before.size
+        pub extends : Extends before d.result
+        pub slots : (i : ℕ) → (d.result.size i ≡ before.size i) ⊎ P (d.result.size i)
         pub later : before.next ≤ d.result.next
         pub makers : (i : ℕ) → i < before.next → d.result.maker i ≡ before.maker i
         pub taken : (v : Variable) → lambda_holes t v ≡ true → Taken_here d.result v
         pub is : (Θ : Variable → Size) → Agrees n types P settled Vars Θ d.result → Kinds_taken P Vars K sub gs (with_types Θ t)
 
-      of_function : (p r : Size) → is_arrow p ≡ true → ((v : Variable) → lambda_holes r v ≡ false) → (v : Variable) → (is_arrow p && function_holes p v) || lambda_holes r v ≡ true → function_holes p v ≡ true
+      pub of_function : (p r : Size) → is_arrow p ≡ true → ((v : Variable) → lambda_holes r v ≡ false) → (v : Variable) → (is_arrow p && function_holes p v) || lambda_holes r v ≡ true → function_holes p v ≡ true
       of_function p r arrow none_rest v y = by_place (function_holes p v) (ap (λ b. (b && function_holes p v) || lambda_holes r v) (sym arrow) ∙ y)
         where
           by_place : (b : Bool) → b || lambda_holes r v ≡ true → b ≡ true
@@ -238,7 +244,8 @@ module _ (n : ℕ) (types : Variable → Ty) (P : Free → Type 0) (settled : (d
         state = ap (λ (y : Done Found). y.state) (sym last) ∙ result.state;
         taking = subst (Taking n types P settled Vars) found_is M.taking;
         stays = subst (Stays n types P settled Vars before) found_is M.stays;
-        size = ap (λ (y : Found). y.size) (sym found_is) ∙ M.size;
+        extends = same_extends before d.result (ap (λ (y : Found). y.size) (sym found_is) ∙ M.size);
+        slots = λ i. inl (ap (λ (y : Found). y.size i) (sym found_is) ∙ ap (λ (g : ℕ → Free). g i) M.size);
         later = subst (λ (y : Found). before.next ≤ y.next) found_is M.later;
         makers = λ i l. ap (λ (y : Found). y.maker i) (sym found_is) ∙ ap (λ (f : ℕ → ℕ). f i) M.maker ∙ kept_maker lo (here lo gs) before i l;
         taken = λ v y. subst (λ (z : Found). Taken_here z v) found_is (M.here v (of_function p r L.arrow none_rest v y));
@@ -298,7 +305,8 @@ module _ (n : ℕ) (types : Variable → Ty) (P : Free → Type 0) (settled : (d
         state = ap (λ (y : Done Found). y.state) (sym last) ∙ a1.state ∙ sym L.state;
         taking = subst (Taking n types P settled Vars) found_is M.taking;
         stays = subst (Stays n types P settled Vars before) found_is M.stays;
-        size = ap (λ (y : Found). y.size) (sym found_is) ∙ M.size;
+        extends = same_extends before d.result (ap (λ (y : Found). y.size) (sym found_is) ∙ M.size);
+        slots = λ i. inl (ap (λ (y : Found). y.size i) (sym found_is) ∙ ap (λ (g : ℕ → Free). g i) M.size);
         later = subst (λ (y : Found). before.next ≤ y.next) found_is M.later;
         makers = λ i l. ap (λ (y : Found). y.maker i) (sym found_is) ∙ ap (λ (f : ℕ → ℕ). f i) M.maker ∙ kept_maker lo (here lo gs) before i l;
         taken = λ v y. subst (λ (z : Found). Taken_here z v) found_is (M.here v (of_function p r L.arrow none_rest v y));
@@ -344,7 +352,8 @@ module _ (n : ℕ) (types : Variable → Ty) (P : Free → Type 0) (settled : (d
             state = R.state;
             taking = R.taking;
             stays = R.stays;
-            size = R.size;
+            extends = R.extends;
+            slots = R.slots;
             later = R.later;
             makers = R.makers;
             taken = λ v y. R.taken v (ap (λ b. (b && function_holes p v) || lambda_holes r v) (sym o.1) ∙ y);
@@ -363,7 +372,7 @@ module _ (n : ℕ) (types : Variable → Ty) (P : Free → Type 0) (settled : (d
       One_wide (g ∷ gs) (Fun k p r) = Function_wanted p (sub g.node) × All_data_given P Vars K sub gs × ((v : Variable) → lambda_holes r v ≡ false)
       One_wide gs t = ⊥
 
-      wide_behind : (g : Given) (gs : List Given) (k : ℕ) (p r : Size) (before : Found) → is_function g.size ≡ true → data_met (early_wants lo (g ∷ gs) none_opened (Opened_type (Fun k p r)) nothing_found) (last_found lo (g ∷ gs) (Opened_type (Fun k p r)) nothing_found) ≡ Ok before → found_behind lo g gs (Opened_type (Fun k p r)) ≡ Ok before
+      pub wide_behind : (g : Given) (gs : List Given) (k : ℕ) (p r : Size) (before : Found) → is_function g.size ≡ true → data_met (early_wants lo (g ∷ gs) none_opened (Opened_type (Fun k p r)) nothing_found) (last_found lo (g ∷ gs) (Opened_type (Fun k p r)) nothing_found) ≡ Ok before → found_behind lo g gs (Opened_type (Fun k p r)) ≡ Ok before
       unfolding instance data_met
       wide_behind g gs k p r before is_fun e = sym (ap (λ b. then_do (cond b (Ok start) (meet (here lo gs) data_way g.node (opened_by lo gs g nothing_found k none_opened) (Opened_type p) none_opened g.size (made_at (here lo gs) start))) (λ found. data_met (early_wants lo gs (opened_by lo gs g nothing_found k none_opened) (Opened_type r) (found_after lo gs g nothing_found k)) found)) is_fun) ∙ e
         where

@@ -13,7 +13,7 @@ use Rattle.fut_typing.specs.Names.{Names}
 use Rattle.fut_typing.specs.Patterns.{pattern_types, arrows}
 use Rattle.sized_types.specs.Sizes.{Free, Variable, Size, Hole, Open, Level, Built, Fun, no_size, erased, all_erased}
 use Rattle.fut_sizes.specs.Agreeing.{Answer}
-use Rattle.fut_sizes.specs.Applications.{Want, Met, is_function}
+use Rattle.fut_sizes.specs.Applications.{Want, Met, Argument, Late, is_function}
 use Rattle.fut_sizes.specs.Matching.{Found, nothing_found, none_opened, function_way, meet}
 use Rattle.fut_sizes.specs.Scopes.{Scope}
 use Rattle.fut_sizes.specs.Steps.{State, Done, Step}
@@ -77,7 +77,7 @@ own_state st (Err r) = st
 abbrev pub with_size : Given → Size → Given
 with_size g t = record { node = g.node; value = g.value; named = g.named; size = t; term = g.term; width = g.width; waits = g.waits }
 
-with_argument : (g : Given) (t : Size) (f : Option Want → Found → Step Met) → g.waits ≡ Some f → argument_by g.waits (with_size g t) ≡ argument_by g.waits g
+with_argument : (g : Given) (t : Size) (f : Argument) → g.waits ≡ Some f → argument_by g.waits (with_size g t) ≡ argument_by g.waits g
 with_argument g t f e = ap (λ o. argument_by o (with_size g t)) e ∙ ap (λ o. argument_by o g) (sym e)
 
 module _ (N : Names) (types : Sub) (home : ℕ → ℕ) (K : Kinds) (places : Kind) (data_places : 1 ≤ level places) (In : Free → Type 0) (Vars : Variable → Type 0) (scope : Scope) where
@@ -207,7 +207,7 @@ module _ (N : Names) (types : Sub) (home : ℕ → ℕ) (K : Kinds) (places : Ki
   sized_arguments [] st A h = refl
   sized_arguments (g ∷ gs) st A (inl h) = ap (λ xs. argument_by g.waits g ∷ xs) (sized_arguments gs h.0 A h.1.1)
   sized_arguments (g ∷ gs) st A (inr (inr h)) = refl
-  sized_arguments (g ∷ gs) st A (inr (inl h)) = ap (λ x. x ∷ arguments gs) (with_argument g (own_size (h.0.waits.waiting None nothing_found A)) h.0.waits.waiting h.0.waits_is)
+  sized_arguments (g ∷ gs) st A (inr (inl h)) = ap (λ x. x ∷ arguments gs) (with_argument g (own_size (h.0.waits.waiting None nothing_found A)) (Late g.node h.0.waits.waiting) h.0.waits_is)
 
   pub sized_arrows : (gs : List Given) (st A : State) (h : One_there gs st A) (u : Ty) → arrows_of types (sized_by gs st A h) u ≡ arrows_of types gs u
   sized_arrows [] st A h u = refl
@@ -270,7 +270,7 @@ module _ (N : Names) (types : Sub) (home : ℕ → ℕ) (K : Kinds) (places : Ki
       M = meets_alone g h.0 A w.0 w.1
 
       not_none : g.waits ≡ None → ⊥
-      not_none e = let z : ◌≡◌ {A = Option (Option Want → Found → Step Met)} (Some h.0.waits.waiting) None = sym h.0.waits_is ∙ e in cc
+      not_none e = let z : ◌≡◌ {A = Option Argument} (Some (Late g.node h.0.waits.waiting)) None = sym h.0.waits_is ∙ e in cc
 
       nodes : (x : ℕ) → ((x < g.node) ⊎ (g.node + numbers g.term ≤ x)) ⊎ (g.waits ≡ None) → (behind g h.0 A).nodes x ≡ A.nodes x
       nodes x (inl o) = M.kept x o

@@ -30,8 +30,10 @@ pub mod Chains
 pub mod Filling
 pub mod Alike
 pub mod Fitting
+pub mod Choosing
 pub mod Coming
 pub mod Lambdas
+pub mod Named
 pub mod Primitives
 pub mod Heads
 pub mod Noting

@@ -11,7 +11,7 @@ use Rattle.fut_types.specs.Types.{Ty, fun_ty, Sub, Kinds, HasKind, level}
 use Rattle.fut_typing.specs.Names.{Names}
 use Rattle.sized_types.specs.Sizes.{Free, Const, Name, Own, Unknown, Slot, Variable, Size, Hole, Open, Level, Built, Fun, erased, replaced, opened}
 use Rattle.fut_sizes.specs.Agreeing.{fits_i64}
-use Rattle.fut_sizes.specs.Applications.{Early, Part, is_function, named_value, with_use, uses}
+use Rattle.fut_sizes.specs.Applications.{Early, Late, Part, is_function, named_value, with_use, uses}
 use Rattle.fut_sizes.specs.Functions.{is_slot, unknown_slot}
 use Rattle.fut_sizes.specs.Matching.{Found, Opened}
 use Rattle.fut_sizes.specs.Rules.{Each_hole, Outside, Away, Is_value, Applies, Sized}
@@ -24,6 +24,7 @@ use Rattle.sizes_meet_rules.specs.Known.{is_i64_size, Known_name, Formed, Says, 
 use Rattle.sizes_meet_rules.specs.Plain.{Is_lambda, Flat_function, Gives_data}
 use Rattle.sizes_meet_rules.proofs.Applying.{number_size, or_unknown, Value_known}
 use Rattle.sizes_meet_rules.proofs.Chains.{number_value, Meant, step_in, Given, arguments, Takes_all, frame, here, opened_by, after, wants, last_found, last_next, own_maker, arrows_of, argument_by, taken_typed, All_plain}
+use Rattle.sizes_meet_rules.proofs.Choosing.{Data_arrows}
 use Rattle.sizes_meet_rules.proofs.Entering.{param_data}
 use Rattle.sizes_meet_rules.proofs.Forming.{is_i64_ty, i64_ty_is, number_typed, formed_replaced}
 use Rattle.sizes_meet_rules.proofs.Frames.{Okay, more, Frames, pushed, pushed_as, fill, fill_keeps, filled, filled_same, opened_filled, filled_says}
@@ -122,7 +123,7 @@ module _ (N : Names) (types : Sub) (home : ℕ → ℕ) (K : Kinds) (places : Ki
       pub st : State
       pub part : Part
       pub waits : Waits N types home In Vars scope g.term g.node (g.node + numbers g.term) st part st
-      pub waits_is : g.waits ≡ Some waits.waiting
+      pub waits_is : g.waits ≡ Some (Late g.node waits.waiting)
       pub value : g.value ≡ None
       pub named : g.named ≡ false
       pub flat : Flat_function types home K places (types g.node)
@@ -132,11 +133,25 @@ module _ (N : Names) (types : Sub) (home : ℕ → ℕ) (K : Kinds) (places : Ki
       pub st : State
       pub part : Part
       pub waits : Waits_wide N types home In Vars scope g.term g.node (g.node + numbers g.term) st part st
-      pub waits_is : g.waits ≡ Some waits.waiting
+      pub waits_is : g.waits ≡ Some (Late g.node waits.waiting)
       pub value : g.value ≡ None
       pub named : g.named ≡ false
       pub is_fun : is_function g.size ≡ true
       pub gives : Gives_data types home K places g.term g.node
+
+    -- a function by its name, which is used at the sizes that are wanted of it
+    pub record Named_wide (g : Given) : Type 0 where
+      pub own : Size
+      pub waits_is : g.waits ≡ Some (Early g.node g.value true own)
+      pub named : g.named ≡ true
+      pub own_fun : is_function own ≡ true
+      pub value_is : (g.value ≡ None) ⊎ (g.value ≡ named_value g.term)
+      pub value_known : Value_known N types home K places data_places In Vars scope g.term (types g.node)
+      pub says : Says In Vars own
+      pub typed : erased own ≡ types g.node
+      pub arrows : Data_arrows own
+      pub of_function : (a : Ty) × ((c : Ty) × (types g.node ≡ fun_ty a c))
+      pub rules : (s : ℕ → Size) (G : Context) → Judged In Vars scope G → Suits own (s g.node) → Sized N types s home g.term g.node G
 
     -- arguments of data that are sized one after another
     abbrev pub All_given : List Given → State → State → Type 0
@@ -148,10 +163,10 @@ module _ (N : Names) (types : Sub) (home : ℕ → ℕ) (K : Kinds) (places : Ki
     One_waits [] st A = ⊥
     One_waits (g ∷ gs) st A = ((mid : State) × (Data_meets g st mid × One_waits gs mid A)) ⊎ ((Lambda_waits g × All_given gs st A) ⊎ ((mid : State) × (Function_meets g st mid × All_given gs mid A)))
 
-    -- or such a lambda before data
+    -- or such a lambda or name before data
     abbrev pub First_waits : List Given → State → State → Type 0
     First_waits [] st A = ⊥
-    First_waits (g ∷ gs) st A = Lambda_wide g × All_given gs st A
+    First_waits (g ∷ gs) st A = (Lambda_wide g ⊎ Named_wide g) × All_given gs st A
 
     pub given_snoc : (gs : List Given) (g : Given) (st mid A : State) → All_given gs st mid → Data_meets g mid A → All_given (gs ++ g ∷ []) st A
     given_snoc [] g st mid A h m = (A, (subst (λ x. Data_meets g x A) h m, refl))

@@ -712,6 +712,10 @@ closed_is (prim.Max own) i = ((tt, (tt, tt)), refl)
 closed_is (prim.Abs own) i = ((tt, tt), refl)
 closed_is (prim.Popc own) i = ((tt, tt), refl)
 closed_is prim.Iota i = ((tt, tt), refl)
+closed_is (prim.Fold folding.Sum own) i = ((tt, tt), refl)
+closed_is (prim.Fold folding.Product own) i = ((tt, tt), refl)
+closed_is (prim.Fold folding.Minimum own) i = ((tt, tt), refl)
+closed_is (prim.Fold folding.Maximum own) i = ((tt, tt), refl)
 closed_is p i = absurd i
 
 module _ (g : Sub) where

@@ -1,9 +1,10 @@
 -- A name or a primitive and its arguments, as they are sized one after another.
-use Rattle.std.proofs.Common.{◌≡◌, ◌⊎◌, ℕ, suc, ◌+◌, ◌≤◌, List, [], ◌∷◌, ◌++◌, Bool, true, false, Some, None, Ok, refl, sym, ap, ◌∙◌, subst, arith, inl, inr}
+use Rattle.std.proofs.Common.{◌≡◌, ◌⊎◌, ℕ, suc, ◌+◌, ◌≤◌, List, [], ◌∷◌, ◌++◌, Bool, true, false, Option, Some, None, Ok, refl, sym, ap, ◌∙◌, subst, arith, inl, inr}
 use Rattle.std.specs.Prelude.{length}
 use Rattle.fut_scalar.specs.declared.place.BindId.{BindId}
 use Rattle.fut_scalar.specs.declared.place.Place.{Place}
 use Rattle.fut_flat.specs.declared.prim.Primitive.{Primitive}
+use Rattle.fut_flat.specs.declared.prim.Ref.{Ref}
 use Rattle.fut_flat.specs.declared.prim.Ref.TheVariants as ref
 use Rattle.fut_flat.specs.Numbers.{numbers}
 use Rattle.fut_flat.specs.Terms.{no_pattern, pattern_and, Use, Strict, Lambda, Apply, Let, If, Loop}
@@ -12,25 +13,32 @@ use Rattle.fut_types.specs.declared.Head.TheVariants as head
 use Rattle.fut_types.specs.declared.Kind.{Kind}
 use Rattle.fut_types.specs.Types.{Ty, fun_ty, Sub, Kinds, HasKind, level}
 use Rattle.fut_typing.specs.Names.{Names}
+use Rattle.fut_typing.specs.Primitives.{i64_ty}
 use Rattle.fut_typing.specs.Scopes.{Scope as TypeScope}
 use Rattle.fut_typing.specs.Typing.{Typed}
-use Rattle.sized_types.specs.Sizes.{Free, Variable, Size, Built, Fun, no_size}
+use Rattle.sized_types.specs.Sizes.{Free, Name, Variable, Size, Built, Fun, no_size, erased}
 use Rattle.fut_sizes.specs.Agreeing.{Answer}
-use Rattle.fut_sizes.specs.Applications.{Argument, Late, Part, Applied, whole}
+use Rattle.fut_sizes.specs.Applications.{Argument, Early, Late, Part, Applied, whole, named_value, is_function}
 use Rattle.fut_sizes.specs.Primitives.{prim_size, is_regular}
+use Rattle.fut_sizes.specs.Rules.{Sized}
 use Rattle.fut_sizes.specs.Scopes.{Scope, used}
+use Rattle.fut_sizes.specs.Scoping.{Context}
 use Rattle.fut_sizes.specs.Sizing.{as_argument, with_argument, sized}
 use Rattle.fut_sizes.specs.Steps.{State, Done}
-use Rattle.sizes_meet_rules.specs.Known.{Known_name, Known_names, Elsewhere}
-use Rattle.sizes_meet_rules.specs.Plain.{Is_lambda, Is_primitive, Flat_function, Gives_data, Plain_term, Plain_spine}
-use Rattle.sizes_meet_rules.proofs.Applying.{Argument_meets, argument_meets, early_meets, value_is_known}
+use Rattle.fut_sizes.specs.Suiting.{Suits}
+use Rattle.sizes_meet_rules.specs.Known.{Says, Known_name, Known_names, Judged, Elsewhere}
+use Rattle.sizes_meet_rules.specs.Plain.{Is_lambda, Is_primitive, Flat_function, Gives_data, Data_function, Used_function, Plain_term, Plain_spine}
+use Rattle.sizes_meet_rules.proofs.Applying.{Function_size, function_is, Argument_meets, argument_meets, early_meets, value_is_known}
 use Rattle.sizes_meet_rules.proofs.Chains.{Given, argument_by, arguments, arrows_of}
+use Rattle.sizes_meet_rules.proofs.Choosing.{data_function_is, arrows_of_type}
 use Rattle.sizes_meet_rules.proofs.Heads.{a_name, a_primitive, Head, Primitive_head}
 use Rattle.sizes_meet_rules.proofs.Meeting.{then_ok, same_ok, elsewhere_narrower, Part_meets, Whole_meets, Is_applied, Waits, Waits_wide}
+use Rattle.sizes_meet_rules.proofs.Naming.{no_function}
 use Rattle.sizes_meet_rules.proofs.Noting.{Placed}
-use Rattle.sizes_meet_rules.proofs.Parts.{gives_lambda, spine, spine_snoc, arguments_snoc, length_snoc, arrows_snoc, placed_snoc, Data_meets, given_inner, Function_meets, Lambda_waits, Lambda_wide, All_given, One_waits, First_waits, given_snoc, waits_snoc, function_snoc, data_snoc, first_snoc}
+use Rattle.sizes_meet_rules.proofs.Parts.{gives_lambda, spine, spine_snoc, arguments_snoc, length_snoc, arrows_snoc, placed_snoc, Data_meets, given_inner, Function_meets, Lambda_waits, Lambda_wide, Named_wide, All_given, One_waits, First_waits, given_snoc, waits_snoc, function_snoc, data_snoc, first_snoc}
+use Rattle.sizes_meet_rules.proofs.Primitives.{closed_is, closed_typed, closed_says}
 use Rattle.sizes_meet_rules.proofs.Showing.{numbers_some, Law_of, Wide_law}
-use Rattle.sizes_meet_rules.proofs.Using.{use_is}
+use Rattle.sizes_meet_rules.proofs.Using.{used_as, used_closed, use_is, suits_rules}
 
 module _ (N : Names) (types : Sub) (home : ℕ → ℕ) (K : Kinds) (places : Kind) (data_places : 1 ≤ level places) where
   -- ---- a name and its arguments
@@ -155,6 +163,67 @@ module _ (N : Names) (types : Sub) (home : ℕ → ℕ) (K : Kinds) (places : Ki
       now : record { result = Late n W.waiting; state = part.state } ≡ argument
       now = same_ok (ap (λ p. as_argument N types n e p part.state) (sym W.is_waiting) ∙ q)
 
+  -- a name or a primitive that is an argument
+  record Used_argument (e : FlatTerm) (n : ℕ) (In : Free → Type 0) (Vars : Variable → Type 0) (scope : Scope) (before : State) (argument : Done Argument) : Type 0 where
+    value : Option Free
+    size : Size
+    is_early : argument.result ≡ Early n value true size
+    value_is : (value ≡ None) ⊎ (value ≡ named_value e)
+    state : argument.state ≡ before
+    says : Says In Vars size
+    typed : erased size ≡ types n
+    rules : (s : ℕ → Size) (G : Context) → Judged In Vars scope G → Suits size (s n) → Sized N types s home e n G
+
+  used_argument : (r : Ref) (at : Place) (j n : ℕ) (In : Free → Type 0) (Vars : Variable → Type 0) (scope : Scope) (T : TypeScope) (before : State) (part : Done Part) (argument : Done Argument) → Plain_term types home K places N (Use r at j) n → Typed N places (Use r at j) n T K types → Known_names In Vars home scope K types T
+      → sized N types (Use r at j) [] n scope before ≡ Ok part → as_argument N types n (Use r at j) part.result part.state ≡ Ok argument → Used_argument (Use r at j) n In Vars scope before argument
+  unfolding sized
+  used_argument (ref.Scalar s) at j n In Vars scope T before part argument pl t known q z = absurd pl
+  used_argument (ref.Prim p) at j n In Vars scope T before part argument pl t known q z = record {
+    value = None;
+    size = prim_size p;
+    is_early = ap (λ (a : Done Argument). a.result) (sym (same_ok there));
+    value_is = inl refl;
+    state = ap (λ (a : Done Argument). a.state) (sym (same_ok there));
+    says = closed_says p In Vars pl;
+    typed = closed_typed p t.0 pl ∙ sym t.2;
+    rules = λ s G J h. used_as (λ v. true) (prim_size p) (s n) h;
+  }
+    where
+      now : ◌≡◌ {A = Answer (Done Part)} (Ok (record { result = whole (prim_size p); state = before })) (Ok part)
+      now = ap (λ (x : Size). Ok (record { result = whole x; state = before })) (sym (used_closed n (types n) (prim_size p) (closed_is p pl).0)) ∙ ap (λ (b : Bool). Ok (record { result = Applied (used n (types n) (prim_size p)) b []; state = before })) (sym (closed_is p pl).1) ∙ q
+
+      there : ◌≡◌ {A = Answer (Done Argument)} (Ok (record { result = Early n None true (prim_size p); state = before })) (Ok argument)
+      there = ap (λ (x : Done Part). as_argument N types n (Use (ref.Prim p) at j) x.result x.state) (same_ok now) ∙ z
+  used_argument (ref.Bound b) at j n In Vars scope T before part argument pl t known q z = record {
+    value = Some (Name b.0);
+    size = k.size;
+    is_early = ap (λ (a : Done Argument). a.result) (sym (same_ok there));
+    value_is = inr refl;
+    state = ap (λ (a : Done Argument). a.state) (sym (same_ok there));
+    says = k.says;
+    typed = k.typed (λ g. by_form g pl);
+    rules = λ s G J h. suits_rules N types home In Vars scope b (types n) k at j n s G J h;
+  }
+    where
+      k : Known_name In Vars types home scope b.0 (types n)
+      k = known b.0 (types n) t
+
+      -- a number is not general
+      by_form : k.is_general ≡ true → (types n ≡ types (home b.0)) ⊎ (types n ≡ i64_ty) → types n ≡ types (home b.0)
+      by_form g (inl e) = e
+      by_form g (inr e) = by_kind (k.function g)
+        where
+          by_kind : ((p : Ty) × (r : Ty) × (types n ≡ fun_ty p r)) ⊎ ((types (home b.0) ≡ i64_ty) ⊎ (types n ≡ types (home b.0))) → types n ≡ types (home b.0)
+          by_kind (inl w) = absurd (no_function w.0 w.1 (sym e ∙ w.2))
+          by_kind (inr (inl h)) = e ∙ sym h
+          by_kind (inr (inr h)) = h
+
+      now : ◌≡◌ {A = Answer (Done Part)} (Ok (record { result = whole k.size; state = before })) (Ok part)
+      now = ap (λ (o : Size). Ok (record { result = whole o; state = before })) (sym (use_is N types home In Vars scope b (types n) k n)) ∙ q
+
+      there : ◌≡◌ {A = Answer (Done Argument)} (Ok (record { result = Early n (Some (Name b.0)) true k.size; state = before })) (Ok argument)
+      there = ap (λ (x : Done Part). as_argument N types n (Use (ref.Bound b) at j) x.result x.state) (same_ok now) ∙ z
+
   -- a primitive by itself
   primitive_plain : (f : FlatTerm) (n : ℕ) → Is_primitive f → Plain_spine types home K places N true f n
   primitive_plain (Use (ref.Prim p) at k) n i = tt
@@ -259,7 +328,7 @@ module _ (N : Names) (types : Sub) (home : ℕ → ℕ) (K : Kinds) (places : Ki
             A = lambda_argument e (1 + lo + numbers f) In Vars scope R.function.state R.part R.argument W R.argument_is
 
             g : Given
-            g = record { node = 1 + lo + numbers f; value = None; named = false; size = Built head.Tuple no_size; term = e; width = 0; waits = Some A.waits.waiting }
+            g = record { node = 1 + lo + numbers f; value = None; named = false; size = Built head.Tuple no_size; term = e; width = 0; waits = Some (Late (1 + lo + numbers f) A.waits.waiting) }
 
             L : Lambda_waits N types home K places data_places In Vars scope g
             L = record { st = R.part.state; part = R.part.result; waits = A.waits; waits_is = refl; value = refl; named = refl; flat = flat }
@@ -284,7 +353,7 @@ module _ (N : Names) (types : Sub) (home : ℕ → ℕ) (K : Kinds) (places : Ki
 
     -- and a lambda that takes the parameters which are wanted of it, by a primitive
     wide_more : Wide_law N types home K places e → lambda ≡ false → Gives_data types home K places e (1 + lo + numbers f) → Is_primitive f → Spine lambda In Vars scope (Apply f e) lo st d
-    wide_more we none gives prim = more true S g refl refl A.is_late (inr (inr (none, subst (λ xs. First_waits N types home K places data_places In Vars scope (xs ++ g ∷ []) st R.argument.state) (sym no_given) (L, state_is), S.of_lambda refl))) no_other
+    wide_more we none gives prim = more true S g refl refl A.is_late (inr (inr (none, subst (λ xs. First_waits N types home K places data_places In Vars scope (xs ++ g ∷ []) st R.argument.state) (sym no_given) (inl L, state_is), S.of_lambda refl))) no_other
       where
         S : Spine true In Vars scope f (1 + lo) st R.function
         S = lf true In Vars scope T (1 + lo) st R.function (primitive_plain f (1 + lo) prim) t.0.0 known in_function R.function_is
@@ -296,7 +365,7 @@ module _ (N : Names) (types : Sub) (home : ℕ → ℕ) (K : Kinds) (places : Ki
         A = wide_argument e (1 + lo + numbers f) In Vars scope R.function.state R.part R.argument W R.argument_is
 
         g : Given
-        g = record { node = 1 + lo + numbers f; value = None; named = false; size = Fun 0 (Built head.Tuple no_size) (Built head.Tuple no_size); term = e; width = 0; waits = Some A.waits.waiting }
+        g = record { node = 1 + lo + numbers f; value = None; named = false; size = Fun 0 (Built head.Tuple no_size) (Built head.Tuple no_size); term = e; width = 0; waits = Some (Late (1 + lo + numbers f) A.waits.waiting) }
 
         L : Lambda_wide N types home K places data_places In Vars scope g
         L = record { st = R.part.state; part = R.part.result; waits = A.waits; waits_is = refl; value = refl; named = refl; is_fun = refl; gives = gives }
@@ -315,13 +384,76 @@ module _ (N : Names) (types : Sub) (home : ℕ → ℕ) (K : Kinds) (places : Ki
         no_other : lambda ≡ true → Primitive_head N types home K In Vars scope S.term S.size S.regular S.type
         no_other z = absurd (let y : true ≡ false = sym z ∙ none in cc)
 
+    -- or a name, which is used at the sizes that are wanted of it
+    named_more : (r : Ref) (at : Place) (j : ℕ) → e ≡ Use r at j → lambda ≡ false → Data_function types home K places (types (1 + lo + numbers f)) → Is_primitive f → Spine lambda In Vars scope (Apply f e) lo st d
+    named_more r at j is none of_data prim = more true S g refl refl A.is_early (inr (inr (none, subst (λ xs. First_waits N types home K places data_places In Vars scope (xs ++ g ∷ []) st R.argument.state) (sym no_given) (inr L, state_is), S.of_lambda refl))) no_other
+      where
+        S : Spine true In Vars scope f (1 + lo) st R.function
+        S = lf true In Vars scope T (1 + lo) st R.function (primitive_plain f (1 + lo) prim) t.0.0 known in_function R.function_is
+
+        A : Used_argument e (1 + lo + numbers f) In Vars scope R.function.state R.argument
+        A = subst (λ x. Used_argument x (1 + lo + numbers f) In Vars scope R.function.state R.argument) (sym is) (used_argument r at j (1 + lo + numbers f) In Vars scope T R.function.state R.part R.argument (subst (λ x. Plain_term types home K places N x (1 + lo + numbers f)) is pe) (subst (λ x. Typed N places x (1 + lo + numbers f) T K types) is t.0.1) known
+            (ap (λ x. sized N types x [] (1 + lo + numbers f) scope R.function.state) (sym is) ∙ R.part_is) (ap (λ x. as_argument N types (1 + lo + numbers f) x R.part.result R.part.state) (sym is) ∙ R.argument_is))
+
+        F : (a : Ty) × ((c : Ty) × (types (1 + lo + numbers f) ≡ fun_ty a c))
+        F = data_function_is types home K places data_places (types (1 + lo + numbers f)) of_data
+
+        W : Function_size A.size F.0 F.1.0
+        W = function_is A.size F.0 F.1.0 A.says.formed (A.typed ∙ F.1.1)
+
+        g : Given
+        g = record { node = 1 + lo + numbers f; value = A.value; named = true; size = Fun 0 (Built head.Tuple no_size) (Built head.Tuple no_size); term = e; width = 0; waits = Some (Early (1 + lo + numbers f) A.value true A.size) }
+
+        L : Named_wide N types home K places data_places In Vars scope g
+        L = record {
+          own = A.size;
+          waits_is = refl;
+          named = refl;
+          own_fun = ap is_function W.is_function;
+          value_is = A.value_is;
+          value_known = value_is_known N types home K places data_places e (1 + lo + numbers f) In Vars scope T known t.0.1;
+          says = A.says;
+          typed = A.typed;
+          arrows = arrows_of_type types home K places data_places (types (1 + lo + numbers f)) A.size A.says.formed A.typed of_data;
+          of_function = F;
+          rules = A.rules;
+        }
+
+        no_given : S.given ≡ []
+        no_given = none_given f S.term S.given prim S.is
+
+        by_meet : Spine_meets true In Vars scope S.given st R.function.state (Primitive_head N types home K In Vars scope S.term S.size S.regular S.type) → R.function.state ≡ st
+        by_meet (inl h) = subst (λ xs. All_given N types home K places data_places In Vars scope xs st R.function.state) no_given h
+        by_meet (inr (inl h)) = absurd (let z : true ≡ false = h.0 in cc)
+        by_meet (inr (inr h)) = absurd (let z : true ≡ false = h.0 in cc)
+
+        state_is : R.argument.state ≡ st
+        state_is = A.state ∙ by_meet S.meet
+
+        no_other : lambda ≡ true → Primitive_head N types home K In Vars scope S.term S.size S.regular S.type
+        no_other z = absurd (let y : true ≡ false = sym z ∙ none in cc)
+
+    -- such a lambda or such a name
+    first_more : (Is_lambda e → Wide_law N types home K places e) → lambda ≡ false → Gives_data types home K places e (1 + lo + numbers f) ⊎ Used_function types home K places e (1 + lo + numbers f) → Is_primitive f → Spine lambda In Vars scope (Apply f e) lo st d
+    first_more we none (inl gives) prim = wide_more (we (gives_lambda types home K places e (1 + lo + numbers f) gives)) none gives prim
+    first_more we none (inr used) prim = by_term e refl used
+      where
+        by_term : (x : FlatTerm) → e ≡ x → Used_function types home K places x (1 + lo + numbers f) → Spine lambda In Vars scope (Apply f e) lo st d
+        by_term (Use r at j) is h = named_more r at j is none h prim
+        by_term (Strict o mark ts) is h = absurd h
+        by_term (Lambda ps b) is h = absurd h
+        by_term (Apply h1 b) is h = absurd h
+        by_term (Let b v y) is h = absurd h
+        by_term (If c a b) is h = absurd h
+        by_term (Loop mark sizes p first turns body) is h = absurd h
+
   pub apply_spine : (f e : FlatTerm) → Spine_law f → Law_of N types home K places e → (Is_lambda e → Wide_law N types home K places e) → Spine_law (Apply f e)
   apply_spine f e lf le we lambda In Vars scope T lo st d pl t known E q = by_kind pl.0
     where
       R : Apply_ran f e lo (1 + lo + numbers f) scope st d
       R = apply_ran f e lo scope st d q
 
-      by_kind : (HasKind K places (types (1 + lo + numbers f)) × Plain_spine types home K places N lambda f (1 + lo)) ⊎ (((lambda ≡ false) × Flat_function types home K places (types (1 + lo + numbers f)) × Plain_spine types home K places N true f (1 + lo)) ⊎ ((lambda ≡ false) × Gives_data types home K places e (1 + lo + numbers f) × Is_primitive f)) → Spine lambda In Vars scope (Apply f e) lo st d
+      by_kind : (HasKind K places (types (1 + lo + numbers f)) × Plain_spine types home K places N lambda f (1 + lo)) ⊎ (((lambda ≡ false) × Flat_function types home K places (types (1 + lo + numbers f)) × Plain_spine types home K places N true f (1 + lo)) ⊎ ((lambda ≡ false) × (Gives_data types home K places e (1 + lo + numbers f) ⊎ Used_function types home K places e (1 + lo + numbers f)) × Is_primitive f)) → Spine lambda In Vars scope (Apply f e) lo st d
       by_kind (inl h) = data_more lambda f e lf le In Vars scope T lo st d pl.1 t known E R h.0 h.1
       by_kind (inr (inl h)) = function_more lambda f e lf le In Vars scope T lo st d pl.1 t known E R h.0 h.1 h.2
-      by_kind (inr (inr h)) = wide_more lambda f e lf le In Vars scope T lo st d pl.1 t known E R (we (gives_lambda types home K places e (1 + lo + numbers f) h.1)) h.0 h.1 h.2
+      by_kind (inr (inr h)) = first_more lambda f e lf le In Vars scope T lo st d pl.1 t known E R we h.0 h.1 h.2

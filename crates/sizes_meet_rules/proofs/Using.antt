@@ -50,9 +50,12 @@ mutual
   all_filled_itself no_size = refl
   all_filled_itself (size_and t ts) = ap (λ x. size_and x (all_filled Hole ts)) (filled_itself t) ∙ ap (size_and t) (all_filled_itself ts)
 
-pub used_itself : (is_general : Variable → Bool) (t : Size) → Filled_use is_general t t
+pub used_as : (is_general : Variable → Bool) (t u : Size) → Suits t u → Filled_use is_general t u
 unfolding Each Data
-used_itself is_general t = record { types = Hole; data_types = λ v. tt; closed = λ v. tt; others = λ v e. refl; used = inl (subst (λ x. Suits x t) (sym (filled_itself t)) suits_same) }
+used_as is_general t u h = record { types = Hole; data_types = λ v. tt; closed = λ v. tt; others = λ v e. refl; used = inl (subst (λ x. Suits x u) (sym (filled_itself t)) h) }
+
+pub used_itself : (is_general : Variable → Bool) (t : Size) → Filled_use is_general t t
+used_itself is_general t = used_as is_general t t suits_same
 
 module _ (N : Names) (types : Sub) (home : ℕ → ℕ) (In : Free → Type 0) (Vars : Variable → Type 0) (scope : Scope) (b : BindId) (u : Ty) (n : Known_name In Vars types home scope b.0 u) where
   pub use_is : (lo : ℕ) → use_known N types lo (scope b.0) ≡ n.size
@@ -62,9 +65,13 @@ module _ (N : Names) (types : Sub) (home : ℕ → ℕ) (In : Free → Type 0) (
       by_form true e = used_closed lo (types lo) n.size (n.closed e)
       by_form false e = refl
 
-  pub use_rules : (at : Place) (k lo : ℕ) (s : ℕ → Size) (G : Context) → Judged In Vars scope G → s lo ≡ n.size → Sized N types s home (Use (ref.Bound b) at k) lo G
-  use_rules at k lo s G J e = by_form n.is_general n.known
+  -- at sizes of the use's own
+  pub suits_rules : (at : Place) (k lo : ℕ) (s : ℕ → Size) (G : Context) → Judged In Vars scope G → Suits n.size (s lo) → Sized N types s home (Use (ref.Bound b) at k) lo G
+  suits_rules at k lo s G J h = by_form n.is_general n.known
     where
       by_form : (c : Bool) → scope b.0 ≡ Some (record { size = n.size; is_general = c }) → Sized N types s home (Use (ref.Bound b) at k) lo G
-      by_form true z = inr (n.size, J.schemes b.0 n.size z, subst (λ x. Filled_use (G.general b.0) n.size x) (sym e) (used_itself (G.general b.0) n.size))
-      by_form false z = inl (n.size, J.sizes b.0 n.size z, subst (λ x. Suits n.size x) (sym e) suits_same)
+      by_form true z = inr (n.size, J.schemes b.0 n.size z, used_as (G.general b.0) n.size (s lo) h)
+      by_form false z = inl (n.size, J.sizes b.0 n.size z, h)
+
+  pub use_rules : (at : Place) (k lo : ℕ) (s : ℕ → Size) (G : Context) → Judged In Vars scope G → s lo ≡ n.size → Sized N types s home (Use (ref.Bound b) at k) lo G
+  use_rules at k lo s G J e = suits_rules at k lo s G J (subst (Suits n.size) (sym e) suits_same)

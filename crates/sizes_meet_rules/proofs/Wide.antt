@@ -13,7 +13,7 @@ use Rattle.fut_typing.specs.Names.{Names}
 use Rattle.fut_typing.specs.Patterns.{pattern_types, arrows}
 use Rattle.sized_types.specs.Sizes.{Free, Variable, Size, Hole, Open, Level, Built, Fun, no_size, erased, all_erased}
 use Rattle.fut_sizes.specs.Agreeing.{Answer, then_do}
-use Rattle.fut_sizes.specs.Applications.{Want, Met, is_function}
+use Rattle.fut_sizes.specs.Applications.{Want, Met, Argument, Late, is_function}
 use Rattle.fut_sizes.specs.Functions.{is_slot}
 use Rattle.fut_sizes.specs.Matching.{Found, made_at, none_opened, function_way, meet}
 use Rattle.fut_sizes.specs.Scopes.{Scope}
@@ -22,7 +22,7 @@ use Rattle.fut_sizes.specs.Suiting.{Each, Scoped, Data}
 use Rattle.sizes_meet_rules.specs.Known.{Formed, Elsewhere}
 use Rattle.sizes_meet_rules.specs.Plain.{Gives_data}
 use Rattle.fut_sizes.specs.Rules.{Each_hole}
-use Rattle.sizes_meet_rules.proofs.Applying.{function_is}
+use Rattle.sizes_meet_rules.proofs.Applying.{as_function, function_there, same_function}
 use Rattle.sizes_meet_rules.proofs.Chains.{Alone, Given, here}
 use Rattle.sizes_meet_rules.proofs.Coming.{wanted_in}
 use Rattle.sizes_meet_rules.proofs.Fitting.{Plain_arrows, plain_arrows, data_alone}
@@ -33,20 +33,9 @@ use Rattle.sizes_meet_rules.proofs.Parts.{gives_lambda, Given_inner, Given_meets
 
 -- ---- what such a lambda gives, if it is not refused
 
-abbrev as_function : Size → Size
-as_function (Fun k p r) = Fun k p r
-as_function t = Fun 0 (Built head.Tuple no_size) (Built head.Tuple no_size)
-
 abbrev pub wide_size : Answer (Done Met) → Size
 wide_size (Ok m) = as_function m.result.size
 wide_size (Err r) = Fun 0 (Built head.Tuple no_size) (Built head.Tuple no_size)
-
-function_there : (t : Size) → is_function (as_function t) ≡ true
-function_there (Fun k p r) = refl
-function_there (Hole v) = refl
-function_there (Open m v u) = refl
-function_there (Level d t) = refl
-function_there (Built h ts) = refl
 
 pub wide_is_function : (y : Answer (Done Met)) → is_function (wide_size y) ≡ true
 wide_is_function (Ok m) = function_there m.result.size
@@ -132,10 +121,6 @@ module _ (types : Sub) (home : ℕ → ℕ) (K : Kinds) (places : Kind) (data_pl
     plain_lambda (Let b v e) n w t g ty d a f z = absurd g
     plain_lambda (If c x b) n w t g ty d a f z = absurd g
     plain_lambda (Loop mark sizes p first turns body) n w t g ty d a f z = absurd g
-
--- a function as it is
-same_function : (t : Size) (a c : Ty) → Formed t → erased t ≡ fun_ty a c → as_function t ≡ t
-same_function t a c f e = let W = function_is t a c f e in ap as_function W.is_function ∙ sym W.is_function
 
 module _ (N : Names) (types : Sub) (home : ℕ → ℕ) (K : Kinds) (places : Kind) (data_places : 1 ≤ level places) (In : Free → Type 0) (Vars : Variable → Type 0) (scope : Scope) (lo first hi : ℕ) (E : Elsewhere N types home lo hi In) (from_lo : lo ≤ first)
     (g : Given) (L : Lambda_wide N types home K places data_places In Vars scope g) (first_is : first ≡ g.node) (room : g.node + numbers g.term ≤ hi) (answer : Answer (Done Met)) (A : State) where
@@ -229,7 +214,7 @@ module _ (N : Names) (types : Sub) (home : ℕ → ℕ) (K : Kinds) (places : Ki
     wide_later gs = record { nodes = λ x o. nodes x o.0; dropped = λ x o. dropped x o.0 }
       where
         not_none : g.waits ≡ None → ⊥
-        not_none e = let z : ◌≡◌ {A = Option (Option Want → Found → State → Answer (Done Met))} (Some L.waits.waiting) None = sym L.waits_is ∙ e in cc
+        not_none e = let z : ◌≡◌ {A = Option Argument} (Some (Late g.node L.waits.waiting)) None = sym L.waits_is ∙ e in cc
 
         nodes : (x : ℕ) → ((x < g.node) ⊎ (g.node + numbers g.term ≤ x)) ⊎ (g.waits ≡ None) → wide_state.nodes x ≡ A.nodes x
         nodes x (inl o) = ap (λ (y : State). y.nodes x) state_is ∙ W.ran.kept x o

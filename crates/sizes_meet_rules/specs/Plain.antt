@@ -127,6 +127,7 @@ Is_closed (prim.Max own) = Unit {0}
 Is_closed (prim.Abs own) = Unit {0}
 Is_closed (prim.Popc own) = Unit {0}
 Is_closed prim.Iota = Unit {0}
+Is_closed (prim.Fold f own) = Unit {0}
 Is_closed p = ⊥
 
 -- a function under a name
@@ -215,6 +216,16 @@ module _ (types : Sub) (home : ℕ → ℕ) (K : Kinds) (places : Kind) where
   Flat_function (Made head.Fun (more p (more r none))) = Flat_type p × (HasKind K places r ⊎ Flat_function r)
   Flat_function t = ⊥
 
+  -- a function of data, which gives data without arrays
+  abbrev pub Data_function : Ty → Type 0
+  Data_function (Made head.Fun (more p (more r none))) = HasKind K places p × (Flat_type r ⊎ Data_function r)
+  Data_function t = ⊥
+
+  -- a name or a primitive of such a type
+  abbrev pub Used_function : FlatTerm → ℕ → Type 0
+  Used_function (Use r at k) lo = Data_function (types lo)
+  Used_function e lo = ⊥
+
   -- a lambda whose body is data
   abbrev pub Gives_data : FlatTerm → ℕ → Type 0
   Gives_data (Lambda (pattern_and p ps) e) lo = HasKind K places (types (1 + lo + all_pattern_numbers (pattern_and p ps)))
@@ -230,7 +241,7 @@ module _ (types : Sub) (home : ℕ → ℕ) (K : Kinds) (places : Kind) where
       Plain_term (Lambda (pattern_and p ps) e) lo = Plain_patterns (pattern_and p ps) (1 + lo) × Plain_term e (1 + lo + all_pattern_numbers (pattern_and p ps))
       -- a function by its name, or a primitive, applied to arguments of data; a primitive may take one function of parameters without
       -- arrays, which gives data, or as its first argument a lambda of data, which gives data. The result is data; a function by its name may have arguments left, in which are no arrays
-      Plain_term (Apply f e) lo = (HasKind K places (types lo) ⊎ (Flat_function (types lo) × Is_call f)) × (((HasKind K places (types (1 + lo + numbers f)) × Plain_spine false f (1 + lo)) ⊎ (((false ≡ false) × Flat_function (types (1 + lo + numbers f)) × Plain_spine true f (1 + lo)) ⊎ ((false ≡ false) × Gives_data e (1 + lo + numbers f) × Is_primitive f))) × Plain_term e (1 + lo + numbers f))
+      Plain_term (Apply f e) lo = (HasKind K places (types lo) ⊎ (Flat_function (types lo) × Is_call f)) × (((HasKind K places (types (1 + lo + numbers f)) × Plain_spine false f (1 + lo)) ⊎ (((false ≡ false) × Flat_function (types (1 + lo + numbers f)) × Plain_spine true f (1 + lo)) ⊎ ((false ≡ false) × (Gives_data e (1 + lo + numbers f) ⊎ Used_function e (1 + lo + numbers f)) × Is_primitive f))) × Plain_term e (1 + lo + numbers f))
       Plain_term (Let b v e) lo = Plain_let N b.is_function b.sizes b.parameters b.pattern v (1 + lo) × (composition b e ≡ None)
           × (HasKind K places (types (1 + lo + pattern_numbers b.pattern)) ⊎ (Is_lambda v × Is_bound b.pattern)) × Plain_term v (1 + lo + pattern_numbers b.pattern) × Plain_term e (1 + lo + pattern_numbers b.pattern + numbers v)
       Plain_term (If c a b) lo = Plain_term c (1 + lo) × Plain_term a (1 + lo + numbers c) × Plain_term b (1 + lo + numbers c + numbers a)
@@ -242,7 +253,7 @@ module _ (types : Sub) (home : ℕ → ℕ) (K : Kinds) (places : Kind) where
       pub Plain_spine : Bool → FlatTerm → ℕ → Type 0
       Plain_spine lambda (Use (ref.Bound b) at k) lo = (lambda ≡ false) × (types lo ≡ types (home b.0))
       Plain_spine lambda (Use (ref.Prim p) at k) lo = Unit {0}
-      Plain_spine lambda (Apply f e) lo = ((HasKind K places (types (1 + lo + numbers f)) × Plain_spine lambda f (1 + lo)) ⊎ (((lambda ≡ false) × Flat_function (types (1 + lo + numbers f)) × Plain_spine true f (1 + lo)) ⊎ ((lambda ≡ false) × Gives_data e (1 + lo + numbers f) × Is_primitive f))) × Plain_term e (1 + lo + numbers f)
+      Plain_spine lambda (Apply f e) lo = ((HasKind K places (types (1 + lo + numbers f)) × Plain_spine lambda f (1 + lo)) ⊎ (((lambda ≡ false) × Flat_function (types (1 + lo + numbers f)) × Plain_spine true f (1 + lo)) ⊎ ((lambda ≡ false) × (Gives_data e (1 + lo + numbers f) ⊎ Used_function e (1 + lo + numbers f)) × Is_primitive f))) × Plain_term e (1 + lo + numbers f)
       Plain_spine lambda e lo = ⊥
 
       pub Plain_terms : Terms Ref BindId → ℕ → Type 0
