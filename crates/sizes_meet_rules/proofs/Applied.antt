@@ -8,12 +8,12 @@ use Rattle.fut_flat.specs.Erased.{FlatTerm}
 use Rattle.fut_types.specs.declared.Kind.{Kind}
 use Rattle.fut_types.specs.Types.{Ty, fun_ty, Sub, Kinds, HasKind, rank, level}
 use Rattle.fut_typing.specs.Names.{Names}
-use Rattle.sized_types.specs.Sizes.{Free, Const, Name, Own, Unknown, Slot, Dim, At, Bound, Variable, Size, Hole, Open, Level, Built, Fun, Sizes, no_size, size_and, erased, renamed}
+use Rattle.sized_types.specs.Sizes.{Free, Const, Name, Own, Unknown, Slot, Variable, Size, Hole, Open, Level, Built, Fun, erased, renamed}
 use Rattle.fut_sizes.specs.Agreeing.{Answer}
 use Rattle.fut_sizes.specs.Applications.{Later, Argument, Part, Applied, uses}
 use Rattle.fut_sizes.specs.Primitives.{prim_size, is_regular}
 use Rattle.fut_sizes.specs.Functions.{is_slot, unknown_slot, closed}
-use Rattle.fut_sizes.specs.Matching.{Found, nothing_found, made_at, found_size, found_dim, read, all_read, Opened, none_opened, dim_in, in_opened}
+use Rattle.fut_sizes.specs.Matching.{Found, nothing_found, made_at, found_size, read, none_opened, dim_in, in_opened}
 use Rattle.fut_sizes.specs.Rules.{Each_hole, Sized}
 use Rattle.fut_sizes.specs.Scopes.{Scope, instance}
 use Rattle.fut_sizes.specs.Scoping.{Context}
@@ -23,7 +23,7 @@ use Rattle.fut_sizes.specs.Suiting.{Each, Scoped, Free_of, Suits}
 use Rattle.sizes_meet_rules.specs.Known.{Says, Judged, Elsewhere}
 use Rattle.sizes_meet_rules.specs.Plain.{Flat_function, Is_call}
 use Rattle.sizes_meet_rules.proofs.Applying.{read_twice}
-use Rattle.sizes_meet_rules.proofs.Chains.{Gives, Given, Waiting_given, Named_given, Widths, arguments, Takes_all, widened, widened_widths, here, opened_by, after, wants, laters, last_opened, last_size, last_goes, last_found, Matched_ran, last_slots, arrows_of, argument_by, All_plain, Reads, Kept, met_all}
+use Rattle.sizes_meet_rules.proofs.Chains.{Gives, Given, Waiting_given, Named_given, Widths, arguments, Takes_all, widened, widened_widths, here, wants, laters, last_opened, last_size, last_goes, last_found, Matched_ran, last_slots, arrows_of, argument_by, All_plain, Reads, Kept, met_all}
 use Rattle.sizes_meet_rules.proofs.Fitting.{Gives_type, function_gives}
 use Rattle.sizes_meet_rules.proofs.Frames.{Okay, none_meant, by_itself, Frames, not_filled, Framed, Settled_parameters, quantified_as}
 use Rattle.sizes_meet_rules.proofs.Meeting.{each_scoped, at_itself, at_another, With_met, met_settled}
@@ -34,7 +34,6 @@ use Rattle.sizes_meet_rules.proofs.Settling.{Any_variable}
 use Rattle.sizes_meet_rules.proofs.Showing.{Law_of}
 use Rattle.fut_sizes.specs.Levels.{levels_within}
 use Rattle.fut_sizes.specs.Applications.{Want, Met}
-use Rattle.fut_sizes.specs.Steps.{Step}
 use Rattle.sizes_meet_rules.proofs.Meeting.{Meets}
 use Rattle.sizes_meet_rules.proofs.Heads.{Head, Primitive_head, Resolved, resolved, primitive_lambda, primitive_named, primitive_wide}
 use Rattle.sizes_meet_rules.proofs.Parts.{spine, all_some, Data_meets, Function_meets, Lambda_waits, Lambda_wide, Named_wide, Given_meets, All_given, One_waits, First_waits, All_parts, below, none_dropped, not_in_outside, Later_part, all_plain, all_fit, Last_says, last_says, Inner_nodes, nodes_of, stage_here, rules_all}

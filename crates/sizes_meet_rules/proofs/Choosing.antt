@@ -7,7 +7,7 @@ use Rattle.fut_scalar.specs.declared.scalar.ScalarType.TheVariants as scalar
 use Rattle.std.proofs.lemmas.Bool.{ne_eqb}
 use Rattle.fut_types.specs.declared.Head.TheVariants as head
 use Rattle.fut_types.specs.declared.Kind.{Kind}
-use Rattle.fut_types.specs.Types.{Ty, Made, more, none, fun_ty, Sub, Kinds, HasKind, rank, least, level}
+use Rattle.fut_types.specs.Types.{Ty, Made, more, none, fun_ty, Sub, Kinds, rank, least, level}
 use Rattle.sized_types.specs.Sizes.{Free, Const, Name, Own, Unknown, Slot, Dim, At, Bound, Variable, Size, Hole, Open, Level, Built, Fun, Sizes, no_size, size_and, erased, all_erased, replaced, all_replaced, given, opened, has}
 use Rattle.sized_types.specs.Standing.{has_hole, some_hole}
 use Rattle.fut_sizes.specs.Agreeing.{Answer, Irregular, then_do}
@@ -22,7 +22,7 @@ use Rattle.sizes_meet_rules.specs.Plain.{Flat_type, Data_function}
 use Rattle.sizes_meet_rules.proofs.Applying.{Function_size, function_is, Slots, met_stays}
 use Rattle.sizes_meet_rules.proofs.Chains.{Alone, alone_scoped, alone_at, alone_replaced}
 use Rattle.sizes_meet_rules.proofs.Filling.{function_holes, Is_inferred, Taken_at, Taking, Stays, stays_taken, Agrees, agrees_before, other_variable, dims_as}
-use Rattle.sizes_meet_rules.proofs.Fitting.{is_simple, is_wanted, wanted_way, Plain_arrows, Lambda_says, Function_met, unread_met, taken_compared, irregular_ok, each_alone, data_alone}
+use Rattle.sizes_meet_rules.proofs.Fitting.{is_simple, is_wanted, wanted_way, Plain_arrows, Function_met, unread_met, taken_compared, irregular_ok, each_alone, data_alone}
 use Rattle.sizes_meet_rules.proofs.Flat_types.{flat, flat_is, flat_each}
 use Rattle.sizes_meet_rules.proofs.Forming.{data_of, formed_replaced}
 use Rattle.sizes_meet_rules.proofs.Frames.{Frames, pushed, fill, filled, fill_keeps, opened_filled, not_filled}

@@ -1,5 +1,5 @@
 -- The value of a definition that is data: it has one type in all of its typings, and a written type tells all of its sizes.
-use Rattle.std.proofs.Common.{◌≡◌, ◌⊎◌, ℕ, suc, ◌+◌, List, [], ◌∷◌, Bool, true, false, Option, Some, Ok, refl, sym, ap, ◌∙◌, subst, inl, inr}
+use Rattle.std.proofs.Common.{◌≡◌, ℕ, suc, ◌+◌, [], ◌∷◌, Bool, true, false, Option, Some, Ok, refl, sym, ap, ◌∙◌, subst, inl, inr}
 use Rattle.fut_scalar.specs.declared.place.BindId.{BindId}
 use Rattle.fut_scalar.specs.declared.place.Place.{Place}
 use Rattle.fut_flat.specs.declared.prim.Ref.{Ref}

@@ -4,7 +4,7 @@ use Rattle.fut_types.specs.declared.Head.TheVariants as head
 use Rattle.fut_types.specs.Types.{Ty, fun_ty, Sub, Kinds, rank}
 use Rattle.sized_types.specs.Sizes.{Free, Dim, Variable, Size, Hole, Open, Level, Built, Fun, no_size, size_and, erased, all_erased, replaced, all_replaced}
 use Rattle.fut_sizes.specs.Agreeing.{Answer, then_do}
-use Rattle.fut_sizes.specs.Applications.{Want, Met, Argument, Early, Late, is_function, is_arrow, data_met, functions_met}
+use Rattle.fut_sizes.specs.Applications.{Want, Met, is_function, is_arrow, data_met, functions_met}
 use Rattle.fut_sizes.specs.Functions.{is_slot}
 use Rattle.fut_sizes.specs.Matching.{Found, nothing_found, made_at, read, all_read, Opened, none_opened, dim_in, in_opened, data_way, function_way, meet}
 use Rattle.fut_sizes.specs.Rules.{Each_hole, filled as with_types}

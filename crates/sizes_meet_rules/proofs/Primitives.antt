@@ -1,23 +1,20 @@
 -- Primitives that take data: their sized types have a form, name no sizes by themselves, and give what their parameters have.
 use Rattle.std.proofs.Common.{◌≡◌, ◌⊎◌, inl, inr, ℕ, suc, ◌<◌, ◌≤◌, List, [], ◌∷◌, Bool, true, false, not, ◌||◌, ◌&&◌, cond, nat_eq, Some, None, refl, sym, ap, ◌∙◌, subst, arith, eq-eqb, eqb-true, ltb-true}
 use Rattle.std.specs.Prelude.{nat_lt, min}
-use Rattle.fut_scalar.specs.declared.scalar.IntType.TheVariants as int
-use Rattle.fut_scalar.specs.declared.scalar.ScalarType.{ScalarType}
-use Rattle.fut_scalar.specs.declared.scalar.ScalarType.TheVariants as scalar
 use Rattle.fut_flat.specs.declared.prim.Folding.TheVariants as folding
 use Rattle.fut_flat.specs.declared.prim.Primitive.{Primitive}
 use Rattle.fut_flat.specs.declared.prim.Primitive.TheVariants as prim
 use Rattle.fut_types.specs.declared.Head.{Head}
 use Rattle.fut_types.specs.declared.Head.TheVariants as head
-use Rattle.fut_types.specs.Types.{Ty, Var, Made, none, more, Sub, Kinds, rank, least, applied, all_applied, scalar_ty, fun_ty}
+use Rattle.fut_types.specs.Types.{Ty, Var, Made, none, more, Sub, Kinds, rank, least, applied, all_applied, fun_ty}
 use Rattle.fut_typing.specs.Primitives.{prim_type}
 use Rattle.sized_types.specs.Sizes.{Free, Dim, At, Bound, Variable, Inferred, Written, is_variable, Size, Hole, Open, Level, Built, Fun, Sizes, no_size, size_and, erased, all_erased, levels, all_levels}
 use Rattle.sized_types.specs.Standing.{has_hole, some_hole}
 use Rattle.fut_sizes.specs.Applications.{is_function, is_arrow}
 use Rattle.fut_sizes.specs.Functions.{is_slot}
-use Rattle.fut_sizes.specs.Primitives.{scalar_size, sized_type, prim_size, is_regular}
+use Rattle.fut_sizes.specs.Primitives.{sized_type, prim_size, is_regular}
 use Rattle.fut_sizes.specs.Rules.{Each_hole, Each_holes, filled as with_types, all_filled as all_with_types}
-use Rattle.fut_sizes.specs.Scopes.{or_else, type_of, type_in, or_variable, instance, instances, used}
+use Rattle.fut_sizes.specs.Scopes.{or_else, type_of, type_in, or_variable, instance, instances}
 use Rattle.fut_sizes.specs.Steps.{State}
 use Rattle.fut_sizes.specs.Suiting.{Each, Each_all, Scoped, Of_positions, Data, All_data}
 use Rattle.sizes_meet_rules.specs.Known.{is_i64_size, Is_made, Formed, All_formed, Says}
