@@ -2,6 +2,7 @@
 use Rattle.std.proofs.Common.{◌≡◌, ℕ, zero, suc, ◌+◌, ◌<◌, ◌≤◌, ◌^◌, List, [], ◌∷◌, ◌++◌, length, map, drop, get_or, slice_get, slice_set, Some, None, Ok, Err, Result, Bool, true, false, not, cond, refl, sym, ap, ◌∙◌, subst, arith}
 use Rattle.std.specs.Prelude.{◌==◌, ◌&&◌, int_le, ℤ}
 use Rattle.std.proofs.lemmas.List.{append-nil}
+use Rattle.std.proofs.lemmas.Option.{slice_get-get_or}
 use Rattle.fut_scalar.specs.Integers.{integer_of, width_of}
 use Rattle.fut_scalar.specs.declared.operator.BinOp.{BinOp}
 use Rattle.fut_scalar.specs.declared.operator.BinOp.TheVariants as binary
@@ -10,7 +11,7 @@ use Rattle.fut_scalar.specs.declared.place.Place.{Place}
 use Rattle.fut_scalar.specs.declared.report.FailKind.TheVariants as kind
 use Rattle.fut_scalar.specs.declared.report.Report.{Report}
 use Rattle.fut_scalar.specs.declared.scalar.IntType.{IntType}
-use Rattle.fut_scalar.specs.declared.scalar.IntType.TheVariants.{I64}
+use Rattle.fut_scalar.specs.declared.scalar.IntType.TheVariants.{I64, U64}
 use Rattle.fut_scalar.specs.declared.scalar.Scalar.{Scalar}
 use Rattle.fut_scalar.specs.declared.scalar.Scalar.TheVariants as scalar
 use Rattle.fut_scalar.specs.declared.scalar.ScalarType.{ScalarType}
@@ -32,13 +33,13 @@ use Rattle.core_ir.specs.declared.block.Atom.{Atom}
 use Rattle.core_ir.specs.declared.block.Operation.{Operation}
 use Rattle.core_ir.specs.declared.block.Operation.TheVariants as operation
 use Rattle.core_ir.specs.Arrays.{scalar_in, exact_in, i64}
-use Rattle.core_ir.specs.Bundles.{Component, One, Many, Row, rows_in}
+use Rattle.core_ir.specs.Bundles.{Component, One, Many, Row, rows_in, sizes as sizes_of}
 use Rattle.core_ir.specs.Meaning.{Env, value_of, scalar_at, truth_at, one, operated, number, named, act_means}
 use Rattle.core_ir.specs.Numbered.{Act_numbered}
 use Rattle.core_ir.specs.Plain.{Action, Operate}
-use Rattle.core_ir.specs.Typed.{Sort, Sorts, sort_of, scalar_sort, truth_sort, i64_sort, with_vars, Atom_is, Integer, integer, Operation_gives, binary_gives, unary_gives, convert_gives, assert_gives, length_gives, check_gives, Act_gives, operate_gives}
+use Rattle.core_ir.specs.Typed.{Sort, Sorts, sort_of, scalar_sort, truth_sort, i64_sort, with_vars, Atom_is, Integer, integer, Operation_gives, binary_gives, unary_gives, convert_gives, assert_gives, length_gives, dimension_gives, check_gives, Act_gives, operate_gives}
 use Rattle.core_code.specs.Registers.{State, state, elem_of, ShowsScalar, ShowsArray, Shows, Stands, Kept}
-use Rattle.core_code.specs.Answers.{Answer, WordTold, word_told, word_failed, no_word, Binary_told, Unary_told, Converts, FirstTold, first_told, no_first, First_size, Read, read, Reads, TruthTold, truth_told, no_truth, Truth_reads, sizes_same, Sizes_told, Set, set, not_set, OneTold, one_told, one_failed, no_one, Operation_told, NoneTold, none_told, none_failed, no_none, Check_told, Stepped, stepped, step_failed, no_memory_stepped}
+use Rattle.core_code.specs.Answers.{Answer, WordTold, word_told, word_failed, no_word, Binary_told, Unary_told, Converts, FirstTold, first_told, no_first, First_size, DimensionTold, dimension_told, no_dimension, Dimension_read, Read, read, Reads, TruthTold, truth_told, no_truth, Truth_reads, sizes_same, Sizes_told, Set, set, not_set, OneTold, one_told, one_failed, no_one, Operation_told, NoneTold, none_told, none_failed, no_none, Check_told, Stepped, stepped, step_failed, no_memory_stepped}
 use Rattle.core_code.specs.Runs.{step_means, Step_runs}
 use Rattle.core_code.specs.declared.stop.Stop.{Stop}
 use Rattle.core_code.specs.declared.stop.Stop.TheVariants.{Failed, Memory}
@@ -138,11 +139,33 @@ module _ (a : Arena) (t : List ℕ) (at : Place) where
       by_gives : (ss : List Sort) → Operation_gives G (operation.Length u) ss → OneTold ss (operated env (operation.Length u) at) r
       by_gives _ (length_gives t' rank ku) = by_read t' rank (hu G env n a.arrays (t', suc rank) st ku)
 
+  pub op_dimension : (o : Operation) (u : Atom) (k l : ℕ) (r : Result ℕ Stop) → o ≡ operation.Dimension u k → Reads t u (Ok l) → Dimension_read a.arrays l k r → Operation_told a t o at r
+  unfolding Operation_told Reads Dimension_read operated
+  op_dimension o u k l r q hu h G env n ss st g = subst (λ z. OneTold ss (operated env z at) r) (sym q) (by_gives ss (subst (λ z. Operation_gives G z ss) q g))
+    where
+      by_size : (c : Component) (t' : ScalarType) (b : Array) (r : Result ℕ Stop) → value_of env u ≡ Val c → c ≡ Many b.sizes (map (scalar_of_word t') b.words) → DimensionTold b.sizes k r → OneTold ((sort.Int U64, 0) ∷ []) (operated env (operation.Dimension u k) at) r
+      by_size c t' b _ v e (dimension_told {n = m} g f) =
+          one_told refl
+          (ap (λ z. and_then z (λ c. and_then (or_wrong (slice_get (sizes_of c) k)) (λ n. one (Val (scalar.Int U64 n))))) v ∙ ap (λ z. and_then (or_wrong (slice_get (sizes_of z) k)) (λ n. one (Val (scalar.Int U64 n)))) e
+          ∙ ap (λ z. and_then (or_wrong z) (λ n. one (Val (scalar.Int U64 n)))) g)
+          (refl, f) refl
+      by_size c t' b _ v e no_dimension = no_one
+
+      by_read : (t' : ScalarType) (rank : ℕ) → k < rank → Read (value_of env u) a.arrays (t', rank) (Ok l) → OneTold ((sort.Int U64, 0) ∷ []) (operated env (operation.Dimension u k) at) r
+      by_read t' zero p y = absurd (omega (arith, p))
+      by_read t' (suc rank) p (read {c} v x) = by_array x
+        where
+          by_array : ShowsArray a.arrays t' (suc rank) c l → OneTold ((sort.Int U64, 0) ∷ []) (operated env (operation.Dimension u k) at) r
+          by_array x = by_size c t' x.array r v x.is (h x.array x.there)
+
+      by_gives : (ss : List Sort) → Operation_gives G (operation.Dimension u k) ss → OneTold ss (operated env (operation.Dimension u k) at) r
+      by_gives _ (dimension_gives t' rank ku p) = by_read t' rank p (hu G env n a.arrays (t', rank) st ku)
+
   pub op_memory : (o : Operation) (e : Stop) → e ≡ Memory → Operation_told a t o at (Err e)
   unfolding Operation_told
   op_memory o e q G env n ss st k = subst (λ z. OneTold ss (operated env o at) (Err z)) (sym q) no_one
 
-pub ruleset operations = (op_binary, op_unary, op_convert, op_length, op_memory)
+pub ruleset operations = (op_binary, op_unary, op_convert, op_length, op_dimension, op_memory)
 
 pub first_ok : (rs : List Array) (at : ℕ) (xs : List ℕ) (n d : ℕ) → ((a : Array) → slice_get rs at ≡ Some a → xs ≡ a.sizes) → 0 < length xs → n ≡ get_or xs 0 d → n < 2 ^ 64 → First_size rs at (Ok n)
 unfolding First_size
@@ -157,6 +180,16 @@ unfolding First_size
 first_memory rs at a g = no_first
 
 pub ruleset first_sizes = (first_ok, first_memory)
+
+pub dimension_ok : (rs : List Array) (at k : ℕ) (xs : List ℕ) (n d : ℕ) → ((a : Array) → slice_get rs at ≡ Some a → xs ≡ a.sizes) → k < length xs → n ≡ get_or xs k d → n < 2 ^ 64 → Dimension_read rs at k (Ok n)
+unfolding Dimension_read
+dimension_ok rs at k xs n d h l e f a g = dimension_told (ap (λ z. slice_get z k) (sym (h a g)) ∙ slice_get-get_or xs k d l ∙ ap Some (sym e)) f
+
+pub dimension_memory : (rs : List Array) (at k : ℕ) → Dimension_read rs at k (Err Memory)
+unfolding Dimension_read
+dimension_memory rs at k a g = no_dimension
+
+pub ruleset dimensions = (dimension_ok, dimension_memory)
 
 -- ---- two sizes
 

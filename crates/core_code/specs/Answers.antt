@@ -72,6 +72,14 @@ pub data FirstTold (sizes : List ℕ) : Result ℕ Stop → Type 0 where
 unfoldable pub First_size : List Array → ℕ → Result ℕ Stop → Type 0
 First_size rs at r = (a : Array) → slice_get rs at ≡ Some a → FirstTold a.sizes r
 
+-- one of the sizes of an array
+pub data DimensionTold (sizes : List ℕ) (k : ℕ) : Result ℕ Stop → Type 0 where
+  dimension_told : {n : ℕ} → slice_get sizes k ≡ Some n → n < 2 ^ 64 → DimensionTold sizes k (Ok n)
+  no_dimension : DimensionTold sizes k (Err Memory)
+
+unfoldable pub Dimension_read : List Array → ℕ → ℕ → Result ℕ Stop → Type 0
+Dimension_read rs at k r = (a : Array) → slice_get rs at ≡ Some a → DimensionTold a.sizes k r
+
 -- ---- operands
 
 -- a word that stands for the component that an outcome has

@@ -1,7 +1,7 @@
 // Steps on scalars: from registers to a register.
 ghost use Rattle.std.specs.Prelude.{◌≡◌, ℕ};
 ghost use Rattle.core_ir.specs.Plain.{Operate};
-ghost use Rattle.core_code.specs.Answers.{Check_told, First_size, OnlyMemory, Operation_told, Sizes_told};
+ghost use Rattle.core_code.specs.Answers.{Check_told, Dimension_read, First_size, OnlyMemory, Operation_told, Sizes_told};
 ghost use Rattle.core_code.specs.Registers.{state};
 ghost use Rattle.core_code.specs.Runs.{Step_runs};
 
@@ -37,7 +37,10 @@ fn operated(operation: Operation, place: Place, table: &[u64], arrays: &Arrays) 
         }
         Operation::Assert(_) => Err(Stop::Memory),
         Operation::CheckSize(_, _) => Err(Stop::Memory),
-        Operation::Dimension(_, _) => Err(Stop::Memory),
+        Operation::Dimension(a, dimension) => {
+            let at = word_at(table, a)?;
+            dimension_of(at, dimension, arrays)
+        }
     }
 }
 
@@ -53,6 +56,23 @@ pub fn length_of(at: u64, arrays: &Arrays) -> Result<u64, Stop>
                 return Err(Stop::Memory);
             }
             Ok(sizes[0])
+        }
+        None => Err(Stop::Memory),
+    }
+}
+
+/// How long an array is in one of its dimensions.
+#[tactic(auto, using(crate::proofs::Operations::dimensions))]
+fn dimension_of(at: u64, dimension: u32, arrays: &Arrays) -> Result<u64, Stop>
+    ensures told { Dimension_read arrays.now.arrays at dimension result }
+    ensures memory { OnlyMemory result }
+{
+    match arrays.sizes(at) {
+        Some(sizes) => {
+            if dimension as usize >= sizes.len() {
+                return Err(Stop::Memory);
+            }
+            Ok(sizes[dimension as usize])
         }
         None => Err(Stop::Memory),
     }

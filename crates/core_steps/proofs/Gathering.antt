@@ -160,21 +160,21 @@ same_all (x ∷ xs) (y ∷ ys) e = by_test (same_sizes x y) refl (all_same_sizes
     by_test false p c q e h = cc
 
 -- a component has as many cells as its sizes say
-cells_many : (rs : List Array) (s : Sort) (c : Component) (w : ℕ) → Shows rs s c w → length (cells c) ≡ extent (sizes c)
+pub cells_many : (rs : List Array) (s : Sort) (c : Component) (w : ℕ) → Shows rs s c w → length (cells c) ≡ extent (sizes c)
 cells_many rs s c w = by_rank s.1
   where
     by_rank : (r : ℕ) → Shows_at rs s.0 r c w → length (cells c) ≡ extent (sizes c)
     by_rank zero x = subst (λ z. length (cells z) ≡ extent (sizes z)) (sym x.is) refl
     by_rank (suc r) x = subst (λ z. length (cells z) ≡ extent (sizes z)) (sym x.is) (length-map x.array.words (scalar_of_word s.0) ∙ x.full)
 
-sizes_many : (rs : List Array) (s : Sort) (c : Component) (w : ℕ) → Shows rs s c w → length (sizes c) ≡ s.1
+pub sizes_many : (rs : List Array) (s : Sort) (c : Component) (w : ℕ) → Shows rs s c w → length (sizes c) ≡ s.1
 sizes_many rs s c w = by_rank s.1
   where
     by_rank : (r : ℕ) → Shows_at rs s.0 r c w → length (sizes c) ≡ r
     by_rank zero x = ap (λ z. length (sizes z)) x.is
     by_rank (suc r) x = ap (λ z. length (sizes z)) x.is ∙ x.deep
 
-drop_map : {A B : Type 0} (g : A → B) (n : ℕ) (xs : List A) → drop n (map g xs) ≡ map g (drop n xs)
+pub drop_map : {A B : Type 0} (g : A → B) (n : ℕ) (xs : List A) → drop n (map g xs) ≡ map g (drop n xs)
 drop_map g zero xs = refl
 drop_map g (suc n) [] = refl
 drop_map g (suc n) (x ∷ xs) = drop_map g n xs
@@ -253,12 +253,12 @@ pub rows_show_on : (rs rs' : List Array) (ss : List Sort) (rows : List Row) (ws 
 rows_show_on rs rs' ss _ _ g no_rows_shown = no_rows_shown
 rows_show_on rs rs' ss _ _ g (row_shown_and {row = row} {rows = rows} {ws = ws} {vs = vs} x sh) = row_shown_and (all_show_on rs rs' ss row ws g x) (rows_show_on rs rs' ss rows vs g sh)
 
-take_get : {A : Type 0} (xs : List A) (i : ℕ) (x : A) → slice_get xs i ≡ Some x → take (suc i) xs ≡ take i xs ++ x ∷ []
+pub take_get : {A : Type 0} (xs : List A) (i : ℕ) (x : A) → slice_get xs i ≡ Some x → take (suc i) xs ≡ take i xs ++ x ∷ []
 take_get [] i x e = cc
 take_get (y ∷ xs) zero x e = let q : y ≡ x = cc in ap (λ z. z ∷ []) q
 take_get (y ∷ xs) (suc i) x e = ap (λ z. y ∷ z) (take_get xs i x e)
 
-lifted_append : (ss : List Sort) (s : Sort) → lifted (ss ++ s ∷ []) ≡ lifted ss ++ (s.0, suc s.1) ∷ []
+pub lifted_append : (ss : List Sort) (s : Sort) → lifted (ss ++ s ∷ []) ≡ lifted ss ++ (s.0, suc s.1) ∷ []
 lifted_append [] s = refl
 lifted_append (t ∷ ss) s = ap (λ z. (t.0, suc t.1) ∷ z) (lifted_append ss s)
 
@@ -267,7 +267,7 @@ words_append [] c ds ws e = ap (λ z. array_words (z ∷ [])) e ∙ (let q : ext
 words_append (One s ∷ cs) c ds ws e = words_append cs c ds ws e
 words_append (Many es vs ∷ cs) c ds ws e = let q = words_append cs c ds ws e in omega (arith, q)
 
-get_some : {A B : Type 0} (g : A → B) (xs : List A) (i : ℕ) (d : A) → i < length xs → slice_get (map g xs) i ≡ Some (g (get_or xs i d))
+pub get_some : {A B : Type 0} (g : A → B) (xs : List A) (i : ℕ) (d : A) → i < length xs → slice_get (map g xs) i ≡ Some (g (get_or xs i d))
 get_some g [] i d l = absurd (omega (arith, l))
 get_some g (x ∷ xs) zero d l = refl
 get_some g (x ∷ xs) (suc i) d l = get_some g xs i d (omega (arith, l))
@@ -275,6 +275,31 @@ get_some g (x ∷ xs) (suc i) d l = get_some g xs i d (omega (arith, l))
 pub record Columns_so (us : List Atom) (cs : Row) (c : ℕ) (A0 A : Arena) (made : List ℕ) : Type 0 where
   pub shown : AllShow A.arrays (lifted (take c (sorts_at us))) (take c cs) made
   pub grown : Made A0 A (array_words (take c cs))
+
+-- a further array behind those that are made
+pub columns_next : (us : List Atom) (cs : Row) (c : ℕ) (s : Sort) (ds : List ℕ) (vs : List Scalar) (A0 A A' : Arena) (made made' : List ℕ) (w : ℕ) → slice_get (sorts_at us) c ≡ Some s → slice_get cs c ≡ Some (Many ds vs) → made' ≡ made ++ w ∷ [] → Columns_so us cs c A0 A made → ColumnMade (s.0, suc s.1) (Many ds vs) A A' (Ok w) → Columns_so us cs (suc c) A0 A' made'
+columns_next us cs c s ds vs A0 A A' made made' w there em p so (column_made z g) =
+    let ts : take (suc c) (sorts_at us) ≡ take c (sorts_at us) ++ s ∷ [] = take_get (sorts_at us) c s there in
+    let tc : take (suc c) cs ≡ take c cs ++ Many ds vs ∷ [] = take_get cs c (Many ds vs) em in
+    let shown : AllShow A'.arrays (lifted (take c (sorts_at us)) ++ (s.0, suc s.1) ∷ []) (take c cs ++ Many ds vs ∷ []) (made ++ w ∷ []) =
+    show_append A'.arrays (lifted (take c (sorts_at us))) (take c cs) made ((s.0, suc s.1) ∷ []) (Many ds vs ∷ []) (w ∷ []) (all_show_on A.arrays A'.arrays (lifted (take c (sorts_at us))) (take c cs) made g.arrays so.shown) (shown_and z none_shown) in
+    record {
+      shown = subst (λ y. AllShow A'.arrays (lifted (take (suc c) (sorts_at us))) (take (suc c) cs) y) (sym p)
+          (subst (λ y. AllShow A'.arrays (lifted (take (suc c) (sorts_at us))) y (made ++ w ∷ [])) (sym tc)
+          (subst (λ y. AllShow A'.arrays y (take c cs ++ Many ds vs ∷ []) (made ++ w ∷ [])) (sym (ap lifted ts ∙ lifted_append (take c (sorts_at us)) s)) shown));
+      grown = record {
+        arrays = λ i a e. g.arrays i a (so.grown.arrays i a e);
+        handed = let n : array_words (take (suc c) cs) ≡ array_words (take c cs) + extent ds = ap array_words tc ∙ words_append (take c cs) (Many ds vs) ds vs refl in omega (arith, n, so.grown.handed, g.handed);
+      };
+    }
+
+-- all of them
+pub columns_whole : (us : List Atom) (cs : Row) (c : ℕ) (A0 A : Arena) (made : List ℕ) → length us ≤ c → length cs ≡ length us → Columns_so us cs c A0 A made → ColumnsMade (sorts_at us) cs A0 A (Ok made)
+columns_whole us cs c A0 A made l m so =
+    let ts : take c (sorts_at us) ≡ sorts_at us = take_all c (sorts_at us) (omega (arith, l, length-map us sort_at)) in
+    let tc : take c cs ≡ cs = take_all c cs (omega (arith, l, m)) in
+    columns_made (subst (λ y. AllShow A.arrays (lifted (sorts_at us)) y made) tc (subst (λ y. AllShow A.arrays (lifted y) (take c cs) made) ts so.shown))
+    (record { arrays = so.grown.arrays; handed = subst (λ y. A.handed ≤ A0.handed + array_words y) tc so.grown.handed })
 
 unfoldable pub Columns_go : List Atom → ℕ → List ℕ → ℕ → Arena → Arena → List ℕ → Type 0
 Columns_go us count ws c A0 A made = (row : Row) (rows : List Row) → Alike_rows A0.arrays us count ws row rows → Columns_so us (columns count (all_sizes row) (row ∷ rows)) c A0 A made
@@ -287,7 +312,7 @@ module _ (us : List Atom) (count : ℕ) (ws : List ℕ) (A0 : Arena) where
   pub columns_more : (c : ℕ) (A A' : Arena) (w : ℕ) (made made' : List ℕ) → c < length us → Columns_go us count ws c A0 A made → Column_made us c count ws A A' (Ok w) → made' ≡ made ++ w ∷ [] → Columns_go us count ws (c + 1) A0 A' made'
   unfolding Columns_go Column_made
   columns_more c A A' w made made' l h k p row rows al =
-      subst (λ z. Columns_so us cs z A0 A' made') (sym (add-one c)) (by_made (h row rows al) (k s row rows m (alike (h row rows al).grown) there em))
+      subst (λ z. Columns_so us cs z A0 A' made') (sym (add-one c)) (columns_next us cs c s (count ∷ sizes x) (column_cells c (row ∷ rows)) A0 A A' made made' w there em p (h row rows al) (k s row rows m (alike (h row rows al).grown) there em))
     where
       cs : Row
       cs = columns count (all_sizes row) (row ∷ rows)
@@ -321,31 +346,10 @@ module _ (us : List Atom) (count : ℕ) (ws : List ℕ) (A0 : Arena) where
       alike : Made A0 A (array_words (take c cs)) → Alike_rows A.arrays us count ws row rows
       alike g = record { shown = rows_show_on A0.arrays A.arrays (sorts_at us) (row ∷ rows) ws g.arrays al.shown; many = al.many; alike = al.alike }
 
-      by_made : Columns_so us cs c A0 A made → ColumnMade (s.0, suc s.1) m A A' (Ok w) → Columns_so us cs (suc c) A0 A' made'
-      by_made so (column_made z g) =
-          let ts : take (suc c) (sorts_at us) ≡ take c (sorts_at us) ++ s ∷ [] = take_get (sorts_at us) c s there in
-          let tc : take (suc c) cs ≡ take c cs ++ m ∷ [] = take_get cs c m em in
-          let shown : AllShow A'.arrays (lifted (take c (sorts_at us)) ++ (s.0, suc s.1) ∷ []) (take c cs ++ m ∷ []) (made ++ w ∷ []) =
-          show_append A'.arrays (lifted (take c (sorts_at us))) (take c cs) made ((s.0, suc s.1) ∷ []) (m ∷ []) (w ∷ []) (all_show_on A.arrays A'.arrays (lifted (take c (sorts_at us))) (take c cs) made g.arrays so.shown) (shown_and z none_shown) in
-          record {
-            shown = subst (λ y. AllShow A'.arrays (lifted (take (suc c) (sorts_at us))) (take (suc c) cs) y) (sym p)
-                (subst (λ y. AllShow A'.arrays (lifted (take (suc c) (sorts_at us))) y (made ++ w ∷ [])) (sym tc)
-                (subst (λ y. AllShow A'.arrays y (take c cs ++ m ∷ []) (made ++ w ∷ [])) (sym (ap lifted ts ∙ lifted_append (take c (sorts_at us)) s)) shown));
-            grown = record {
-              arrays = λ i a e. g.arrays i a (so.grown.arrays i a e);
-              handed = let n : array_words (take (suc c) cs) ≡ array_words (take c cs) + extent (count ∷ sizes x) = ap array_words tc ∙ words_append (take c cs) m (count ∷ sizes x) (column_cells c (row ∷ rows)) refl in omega (arith, n, so.grown.handed, g.handed);
-            };
-          }
-
   pub columns_end : (c : ℕ) (A : Arena) (made : List ℕ) → length us ≤ c → Columns_go us count ws c A0 A made → Columns_made us count ws A0 A (Ok made)
   unfolding Columns_go Columns_made
   columns_end c A made l h row rows al =
-      let so = h row rows al in
-      let cs : Row = columns count (all_sizes row) (row ∷ rows) in
-      let ts : take c (sorts_at us) ≡ sorts_at us = take_all c (sorts_at us) (omega (arith, l, length-map us sort_at)) in
-      let tc : take c cs ≡ cs = take_all c cs (omega (arith, l, columns_many count (all_sizes row) (row ∷ rows), length-map row sizes, by_rows ws al.shown, length-map us sort_at)) in
-      columns_made (subst (λ y. AllShow A.arrays (lifted (sorts_at us)) y made) tc (subst (λ y. AllShow A.arrays (lifted y) (take c cs) made) ts so.shown))
-      (record { arrays = so.grown.arrays; handed = subst (λ y. A.handed ≤ A0.handed + array_words y) tc so.grown.handed })
+      columns_whole us (columns count (all_sizes row) (row ∷ rows)) c A0 A made l (omega (arith, columns_many count (all_sizes row) (row ∷ rows), length-map row sizes, by_rows ws al.shown, length-map us sort_at)) (h row rows al)
     where
       by_rows : (ws : List ℕ) → RowsShow A0.arrays (sorts_at us) (row ∷ rows) ws → length row ≡ length (sorts_at us)
       by_rows _ (row_shown_and {ws = front} x sh) = (shown_many A0.arrays (sorts_at us) row front x).0

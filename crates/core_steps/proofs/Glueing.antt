@@ -23,7 +23,7 @@ use Rattle.core_steps.specs.Gluing.{sort_at, sorts_at, RowsShow, no_rows_shown, 
 use Rattle.core_steps.proofs.Operands.{get_behind, get_front, next_of}
 use Rattle.core_steps.proofs.Sizing.{shown_many, rows_get}
 
-told_is : (b c : Bool) → TestTold b (Ok c) → b ≡ c
+pub told_is : (b c : Bool) → TestTold b (Ok c) → b ≡ c
 told_is _ _ test_told = refl
 
 pub test_yes : (n m : ℕ) → n ≤ m → nat_le n m ≡ true
@@ -42,7 +42,7 @@ test_no n m l = by_test (nat_le n m) refl
 
 -- ---- rows without components
 
-bare_weight : (n : ℕ) → weight_of ((n ∷ 0 ∷ []) ∷ []) ≡ n
+pub bare_weight : (n : ℕ) → weight_of ((n ∷ 0 ∷ []) ∷ []) ≡ n
 bare_weight n = let a : 1 * n * 0 ≡ 0 = omega arith in let b : n * (0 * 1) ≡ 0 = (let c : 0 * 1 ≡ 0 = omega arith in ap (λ z. n * z) c ∙ (let d : n * 0 ≡ 0 = omega arith in d)) in omega (arith, a, b)
 
 module _ (count mark : ℕ) (at : Place) (S S' : State) where
@@ -85,15 +85,15 @@ pub ruleset bares = (bare_large, bare_stop)
 
 -- ---- rows with components
 
-columns_sizes : (n : ℕ) (ds : List (List ℕ)) (rows : List Row) → all_sizes (columns n ds rows) ≡ map (λ d. n ∷ d) ds
+pub columns_sizes : (n : ℕ) (ds : List (List ℕ)) (rows : List Row) → all_sizes (columns n ds rows) ≡ map (λ d. n ∷ d) ds
 columns_sizes n [] rows = refl
 columns_sizes n (d ∷ ds) rows = ap (λ z. (n ∷ d) ∷ z) (columns_sizes n ds (map others rows))
 
-bundle_columns : (n : ℕ) (ds : List (List ℕ)) (rows : List Row) → (length ds ≡ 0 → ⊥) → bundle n ds rows ≡ columns n ds rows
+pub bundle_columns : (n : ℕ) (ds : List (List ℕ)) (rows : List Row) → (length ds ≡ 0 → ⊥) → bundle n ds rows ≡ columns n ds rows
 bundle_columns n [] rows ne = absurd (ne refl)
 bundle_columns n (d ∷ ds) rows ne = refl
 
-bundled_lifted : (ss out : List Sort) → Bundled ss out → (length ss ≡ 0 → ⊥) → out ≡ lifted ss
+pub bundled_lifted : (ss out : List Sort) → Bundled ss out → (length ss ≡ 0 → ⊥) → out ≡ lifted ss
 bundled_lifted _ _ bare ne = absurd (ne refl)
 bundled_lifted _ _ full ne = refl
 
@@ -140,7 +140,7 @@ module _ (us : List Atom) (count mark : ℕ) (at : Place) (S S' : State) where
       no_length _ (row_shown_and {ws = front} x sh) = omega (arith, (shown_many S.arena.arrays (sorts_at us) row front x).0, length-map us sort_at, e)
 
   module _ (words : List ℕ) (w : words ≡ take (length S.stack - mark) (drop mark S.stack)) where
-    are_words : (below ws : List ℕ) → S.stack ≡ below ++ ws → length below ≡ mark → words ≡ ws
+    pub are_words : (below ws : List ℕ) → S.stack ≡ below ++ ws → length below ≡ mark → words ≡ ws
     are_words below ws p m =
         let d : drop mark S.stack ≡ ws = ap (λ z. drop z S.stack) (sym m) ∙ ap (drop (length below)) p ∙ drop-append_seam below ws in
         let n : length S.stack ≡ length below + length ws = ap length p ∙ length-append below ws in

@@ -9,3 +9,6 @@ mod Glueing
 mod Sourcing
 mod Makes
 mod Indices
+mod Emptying
+pub mod Literals
+mod Repeating

@@ -1,5 +1,5 @@
 -- New arrays without a function.
-use Rattle.std.proofs.Common.{◌≡◌, ℕ, zero, suc, ◌+◌, ◌-◌, ◌*◌, ◌<◌, ◌≤◌, ◌^◌, min, List, [], ◌∷◌, ◌++◌, map, length, slice_get, Ok, Err, false, nat_le, refl, sym, ap, ◌∙◌, subst, arith, add-one}
+use Rattle.std.proofs.Common.{◌≡◌, ℕ, zero, suc, ◌+◌, ◌-◌, ◌*◌, ◌<◌, ◌≤◌, ◌^◌, min, List, [], ◌∷◌, ◌++◌, map, length, slice_get, Bor, Ok, Err, false, nat_le, refl, sym, ap, ◌∙◌, subst, arith, add-one}
 use Rattle.std.proofs.Math.Nat.{mod-eq_of_lt}
 use Rattle.fut_scalar.specs.declared.place.Place.{Place}
 use Rattle.fut_scalar.specs.declared.report.FailKind.TheVariants as kind
@@ -16,19 +16,21 @@ use Rattle.core_arrays.specs.Arenas.{Array, Arena, array, with_array}
 use Rattle.core_ir.specs.declared.block.Atom.{Atom}
 use Rattle.core_ir.specs.declared.block.Making.{Making}
 use Rattle.core_ir.specs.declared.block.Making.TheVariants as make
-use Rattle.core_ir.specs.Arrays.{sized_by, flat, numbers_below, i64, done, fresh_words}
-use Rattle.core_ir.specs.Bundles.{Component, Many, Row, weight_of, within_weight, array_words}
-use Rattle.core_ir.specs.Meaning.{Env, value_of, groups_of, act_means}
-use Rattle.core_ir.specs.Plain.{Action, Do, Iota, making_form}
-use Rattle.core_ir.specs.Typed.{Sort, Groups_are, Deed_gives, iota_gives, deed_gives}
-use Rattle.core_code.specs.Registers.{State, ShowsArray, none_shown, shown_and}
-use Rattle.core_code.specs.Answers.{Answer, Pushed, pushed, Runs, ran, failed, no_memory}
+use Rattle.core_ir.specs.Arrays.{sized_by, flat, numbers_below, i64, all_told, replicated, done, fresh_words}
+use Rattle.core_ir.specs.Bundles.{Component, Many, Row, weight_of, within_weight, glued, array_words}
+use Rattle.core_ir.specs.Meaning.{Env, value_of, values_of, groups_of, collected, act_means}
+use Rattle.core_ir.specs.Plain.{Action, Do, Iota, Empty, Literal, Replicate, Copy, group, making_form}
+use Rattle.core_ir.specs.Typed.{Sort, lifted, Groups_are, and_more, Deed_gives, iota_gives, empty_gives, literal_gives, replicate_gives, copy_gives, deed_gives}
+use Rattle.core_code.specs.Registers.{State, ShowsArray, AllShow, none_shown, shown_and}
+use Rattle.core_code.specs.Answers.{Answer, ReadAll, read_all, no_memory_read_all, Reads_all, Pushed, pushed, Runs, ran, failed, no_memory}
 use Rattle.core_code.specs.Answers as answer
 use Rattle.core_code.specs.Runs.{act_runs, Act_runs}
 use Rattle.core_code.specs.declared.stop.Stop.{Stop}
 use Rattle.core_code.specs.declared.stop.Stop.TheVariants.{Failed, Memory}
 use Rattle.core_code.proofs.Frames.{the_is}
-use Rattle.core_steps.specs.Deeds.{Iota_told}
+use Rattle.core_steps.specs.Deeds.{Iota_told, Literal_told}
+use Rattle.core_steps.specs.Empties.{None_told}
+use Rattle.core_steps.specs.Repeating.{Replicate_told}
 use Rattle.core_steps.specs.Gluing.{Made, GluedTold, glued_told, glue_failed, no_glue}
 use Rattle.core_steps.specs.Rows.{CountTold, count_told, count_failed, no_count}
 use Rattle.core_steps.specs.Sources.{Size_asked}
@@ -157,4 +159,95 @@ pub making_iota : (budget : ℕ) (m : Making) (u : Atom) (at : Place) (S S' : St
 unfolding making_form
 making_iota budget m u at S S' r e w h = subst (λ z. Act_runs budget z S S' r) (sym (ap (λ z. making_form z at) e)) (iota_act budget u at S S' r w h)
 
-pub ruleset makings = (act_memory, making_iota)
+empty_groups : (at : Place) (env : Env) (uss : List (List Atom)) → and_then (groups_of env uss) (done false Empty at) ≡ collected false at env uss []
+unfolding done
+empty_groups at env uss = by_groups (groups_of env uss)
+  where
+    by_groups : (o : Out (List Row)) → and_then o (done false Empty at) ≡ and_then o (λ css. and_then (all_told css) (λ ds. glued false at ds []))
+    by_groups (Val css) = refl
+    by_groups (Fail r) = refl
+    by_groups Wrong = refl
+
+pub empty_act : (budget : ℕ) (uss : List (List Atom)) (at : Place) (S S' : State) (r : Answer) → S'.words ≡ S.words → None_told uss at S S' r → Act_runs budget (Do Empty at uss) S S' r
+unfolding None_told Act_runs act_means
+empty_act budget uss at S S' r w h G env ss n last st (deed_gives {sss = sss} g (empty_gives {row = row} t b)) nb =
+    subst (λ z. Runs (Then (the z) (λ cs. gives (array_words cs) cs)) ss n S S' r) (sym (empty_groups at env uss)) (made_runs (collected false at env uss []) ss n S S' r w (h G env n sss row ss st g t b))
+
+pub making_empty : (budget : ℕ) (m : Making) (sizes : Bor (List (Bor (List Atom)))) (at : Place) (S S' : State) (r : Answer) → m ≡ make.Empty sizes → S'.words ≡ S.words → None_told (map group sizes.now) at S S' r → Act_runs budget (making_form m at) S S' r
+unfolding making_form
+making_empty budget m sizes at S S' r e w h = subst (λ z. Act_runs budget z S S' r) (sym (ap (λ z. making_form z at) e)) (empty_act budget (map group sizes.now) at S S' r w h)
+
+literal_groups : (at : Place) (env : Env) (uss : List (List Atom)) → and_then (groups_of env uss) (done false Literal at) ≡ and_then (groups_of env uss) (glued false at [])
+unfolding done
+literal_groups at env uss = by_groups (groups_of env uss)
+  where
+    by_groups : (o : Out (List Row)) → and_then o (done false Literal at) ≡ and_then o (glued false at [])
+    by_groups (Val css) = refl
+    by_groups (Fail r) = refl
+    by_groups Wrong = refl
+
+pub literal_act : (budget : ℕ) (uss : List (List Atom)) (at : Place) (S S' : State) (r : Answer) → S'.words ≡ S.words → Literal_told uss at S S' r → Act_runs budget (Do Literal at uss) S S' r
+unfolding Literal_told Act_runs act_means
+literal_act budget uss at S S' r w h G env ss n last st (deed_gives g (literal_gives {row = row} {rows = rows} i b)) nb =
+    subst (λ z. Runs (Then (the z) (λ cs. gives (array_words cs) cs)) ss n S S' r) (sym (literal_groups at env uss))
+    (made_runs (and_then (groups_of env uss) (glued false at [])) ss n S S' r w (h G env n row ss (row ∷ rows) st g (and_more i) b))
+
+pub making_literal : (budget : ℕ) (m : Making) (rows : Bor (List (Bor (List Atom)))) (at : Place) (S S' : State) (r : Answer) → m ≡ make.Literal rows → S'.words ≡ S.words → Literal_told (map group rows.now) at S S' r → Act_runs budget (making_form m at) S S' r
+unfolding making_form
+making_literal budget m rows at S S' r e w h = subst (λ z. Act_runs budget z S S' r) (sym (ap (λ z. making_form z at) e)) (literal_act budget (map group rows.now) at S S' r w h)
+
+replicate_groups : (at : Place) (env : Env) (u : Atom) (us : List Atom) → and_then (groups_of env ((u ∷ []) ∷ us ∷ [])) (done false Replicate at) ≡ and_then (value_of env u) (λ c. and_then (values_of env us) (λ row. replicated false at c row))
+unfolding done
+replicate_groups at env u us = by_values (value_of env u) (values_of env us)
+  where
+    by_values : (o : Out Component) (p : Out Row) → and_then (and_then (and_then o (λ c. and_then (Val []) (λ cs. Val (c ∷ cs)))) (λ cs. and_then (and_then p (λ ds. and_then (Val []) (λ css. Val (ds ∷ css)))) (λ css. Val (cs ∷ css)))) (done false Replicate at) ≡ and_then o (λ c. and_then p (λ row. replicated false at c row))
+    by_values (Val c) (Val row) = refl
+    by_values (Val c) (Fail r) = refl
+    by_values (Val c) Wrong = refl
+    by_values (Fail r) p = refl
+    by_values Wrong p = refl
+
+pub replicate_act : (budget : ℕ) (u : Atom) (us : List Atom) (at : Place) (S S' : State) (r : Answer) → S'.words ≡ S.words → Replicate_told u us at S S' r → Act_runs budget (Do Replicate at ((u ∷ []) ∷ us ∷ [])) S S' r
+unfolding Replicate_told Act_runs act_means
+replicate_act budget u us at S S' r w h G env ss n last st (deed_gives g d) nb = by_groups ss g d
+  where
+    by_groups : {sss : List (List Sort)} (ss : List Sort) → Groups_are G ((u ∷ []) ∷ us ∷ []) sss → Deed_gives Replicate sss ss → Runs (Then (the (and_then (groups_of env ((u ∷ []) ∷ us ∷ [])) (done false Replicate at))) (λ cs. gives (fresh_words Replicate cs) cs)) ss n S S' r
+    by_groups ss (all_more (all_more {x' = s} a all_none) (all_more {x' = row} b all_none)) (replicate_gives i d) =
+        subst (λ z. Runs (Then (the z) (λ cs. gives (array_words cs) cs)) ss n S S' r) (sym (replicate_groups at env u us))
+        (made_runs (and_then (value_of env u) (λ c. and_then (values_of env us) (λ row. replicated false at c row))) ss n S S' r w (h G env n s row ss st i a b d))
+
+pub making_replicate : (budget : ℕ) (m : Making) (u : Atom) (us : Bor (List Atom)) (at : Place) (S S' : State) (r : Answer) → m ≡ make.Replicate u us → S'.words ≡ S.words → Replicate_told u us.now at S S' r → Act_runs budget (making_form m at) S S' r
+unfolding making_form
+making_replicate budget m u us at S S' r e w h = subst (λ z. Act_runs budget z S S' r) (sym (ap (λ z. making_form z at) e)) (replicate_act budget u us.now at S S' r w h)
+
+-- operands as they are
+shared_runs : (o : Out Row) (f : Row → ℕ) (ss : List Sort) (n : ℕ) (S S' : State) (r : Answer) → S'.words ≡ S.words → S'.arena ≡ S.arena → ReadAll o S.arena.arrays ss S.stack S'.stack r → Runs (Then (the o) (λ cs. gives (f cs) cs)) ss n S S' r
+shared_runs o f ss n S S' _ w a (read_all {cs} {ws} e sh q) =
+    ran cs ws (0 + f cs) q (subst (λ (z : Arena). AllShow z.arrays ss cs ws) (sym a) sh)
+    (record { words = λ x l. ap (λ t. slice_get t x) w; arrays = λ i b z. ap (λ (y : Arena). slice_get y.arrays i) a ∙ z; handed = let c : S'.arena.handed ≡ S.arena.handed = ap (λ (z : Arena). z.handed) a in omega (arith, c) })
+    (goes_on (the_is o (Val cs) e) exact)
+shared_runs o f ss n S S' _ w a no_memory_read_all = no_memory
+
+copy_groups : (at : Place) (env : Env) (us : List Atom) → and_then (groups_of env (us ∷ [])) (done false Copy at) ≡ values_of env us
+unfolding done
+copy_groups at env us = by_values (values_of env us)
+  where
+    by_values : (o : Out Row) → and_then (and_then o (λ cs. and_then (Val []) (λ css. Val (cs ∷ css)))) (done false Copy at) ≡ o
+    by_values (Val cs) = refl
+    by_values (Fail r) = refl
+    by_values Wrong = refl
+
+pub copy_act : (budget : ℕ) (us : List Atom) (at : Place) (S S' : State) (r : Answer) → S'.words ≡ S.words → S'.arena ≡ S.arena → Reads_all S.words us S.stack S'.stack r → Act_runs budget (Do Copy at (us ∷ [])) S S' r
+unfolding Reads_all Act_runs act_means
+copy_act budget us at S S' r w a h G env ss n last st (deed_gives g d) nb = by_groups ss g d
+  where
+    by_groups : {sss : List (List Sort)} (ss : List Sort) → Groups_are G (us ∷ []) sss → Deed_gives Copy sss ss → Runs (Then (the (and_then (groups_of env (us ∷ [])) (done false Copy at))) (λ cs. gives (fresh_words Copy cs) cs)) ss n S S' r
+    by_groups _ (all_more x all_none) (copy_gives s ss) =
+        subst (λ z. Runs (Then (the z) (λ cs. gives (fresh_words Copy cs) cs)) (lifted (s ∷ ss)) n S S' r) (sym (copy_groups at env us))
+        (shared_runs (values_of env us) (fresh_words Copy) (lifted (s ∷ ss)) n S S' r w a (h G env n S.arena.arrays (lifted (s ∷ ss)) st x))
+
+pub making_copy : (budget : ℕ) (m : Making) (us : Bor (List Atom)) (at : Place) (S S' : State) (r : Answer) → m ≡ make.Copy us → S'.words ≡ S.words → S'.arena ≡ S.arena → Reads_all S.words us.now S.stack S'.stack r → Act_runs budget (making_form m at) S S' r
+unfolding making_form
+making_copy budget m us at S S' r e w a h = subst (λ z. Act_runs budget z S S' r) (sym (ap (λ z. making_form z at) e)) (copy_act budget us.now at S S' r w a h)
+
+pub ruleset makings = (act_memory, making_iota, making_empty, making_literal, making_replicate)

@@ -1,8 +1,8 @@
 -- Operands one after the other, and what stands for them.
-use Rattle.std.proofs.Common.{◌≡◌, ℕ, zero, suc, ◌≤◌, List, [], ◌∷◌, ◌++◌, map, length, take, drop, slice_get, Some, refl, sym, ap, ◌∙◌, arith}
+use Rattle.std.proofs.Common.{◌≡◌, ℕ, zero, suc, ◌≤◌, List, [], ◌∷◌, ◌++◌, map, length, take, drop, slice_get, Some, refl, sym, ap, ◌∙◌, arith, append_assoc}
 use Rattle.fut_meaning.specs.Accessors.{or_wrong}
 use Rattle.fut_meaning.specs.Outcomes.{Out, Val, Fail, Wrong, and_then}
-use Rattle.fut_meaning.specs.Sames.{all_none, all_more}
+use Rattle.fut_meaning.specs.Sames.{All_same, all_none, all_more}
 use Rattle.fut_blocks.specs.Meaning.{fitted}
 use Rattle.core_arrays.specs.Arenas.{Array}
 use Rattle.core_ir.specs.declared.block.Atom.{Atom}
@@ -114,3 +114,21 @@ pub get_front : {A : Type 0} (xs ys : List A) (i : ℕ) (x : A) → slice_get xs
 get_front [] ys i x e = cc
 get_front (z ∷ xs) ys zero x e = e
 get_front (z ∷ xs) ys (suc i) x e = get_front xs ys i x e
+
+-- ---- as many of one as of the other
+
+pub same_many : {A A' : Type 0} (r : A → A' → Type 0) (xs : List A) (ys : List A') → All_same r xs ys → length xs ≡ length ys
+same_many r _ _ all_none = refl
+same_many r _ _ (all_more {xs = xs} {xs' = ys} x a) = ap suc (same_many r xs ys a)
+
+-- ---- a list that an outcome has, element by element
+
+pub none_before : {A : Type 0} (o : Out (List A)) → o ≡ and_then o (λ ys. Val ([] ++ ys))
+none_before (Val ys) = refl
+none_before (Fail r) = refl
+none_before Wrong = refl
+
+pub one_behind : {A : Type 0} (o : Out (List A)) (xs : List A) (x : A) → and_then (and_then o (λ ys. Val (x ∷ ys))) (λ ys. Val (xs ++ ys)) ≡ and_then o (λ ys. Val ((xs ++ x ∷ []) ++ ys))
+one_behind (Val ys) xs x = ap Val (sym (append_assoc xs (x ∷ []) ys))
+one_behind (Fail r) xs x = refl
+one_behind Wrong xs x = refl

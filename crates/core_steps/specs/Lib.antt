@@ -3,3 +3,5 @@ pub mod Gluing
 pub mod Sources
 pub mod Deeds
 pub mod Indexing
+pub mod Empties
+pub mod Repeating

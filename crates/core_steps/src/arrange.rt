@@ -17,7 +17,7 @@ use fut_value::GREATEST_WEIGHT;
 
 /// Puts words behind others.
 #[tactic(auto, using(crate::proofs::Glueing::word_pushes))]
-fn push_words(words: &[u64], stack: &mut Vec<u64>) -> Result<(), Stop>
+pub fn push_words(words: &[u64], stack: &mut Vec<u64>) -> Result<(), Stop>
     ensures told { OnOk result (stack.new.items ≡ stack.old.items ++ words.now) }
     ensures memory { OnlyMemory result }
 {
@@ -49,7 +49,7 @@ fn misfit(place: Place) -> Stop
 
 /// Rows without components as an array of no cells.
 #[tactic(auto, using(crate::proofs::Glueing::bares))]
-fn glue_bare(
+pub fn glue_bare(
     count: u64,
     mark: usize,
     place: Place,

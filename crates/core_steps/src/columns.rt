@@ -21,7 +21,7 @@ fn put_words(words: &[u64], into: &mut List<u64>) -> Result<(), NoMemory>
 
 /// Puts the words of a component's cells behind others.
 #[tactic(auto, using(crate::proofs::Gathering::puts))]
-fn put_cells(atom: Atom, word: u64, into: &mut List<u64>, arrays: &Arrays) -> Result<(), Stop>
+pub fn put_cells(atom: Atom, word: u64, into: &mut List<u64>, arrays: &Arrays) -> Result<(), Stop>
     ensures told { Cells_put arrays.now.arrays atom word into.old into.new result }
     ensures memory { OnlyMemory result }
 {
@@ -65,7 +65,7 @@ fn column(
 
 /// The sizes of so many rows with a component of the sizes of a word's.
 #[tactic(auto, using(crate::proofs::Gathering::sizes_rules))]
-fn sizes_in_rows(atom: Atom, word: u64, count: u64, arrays: &Arrays) -> Result<List<u64>, Stop>
+pub fn sizes_in_rows(atom: Atom, word: u64, count: u64, arrays: &Arrays) -> Result<List<u64>, Stop>
     ensures told { Sizes_read arrays.now.arrays atom word count result }
     ensures memory { OnlyMemory result }
 {

@@ -8,6 +8,8 @@
 mod arrange;
 mod bundles;
 mod columns;
+mod copies;
+mod empties;
 mod gluing;
 mod making;
 mod rows;
@@ -16,6 +18,7 @@ mod views;
 
 pub use arrange::glue;
 pub use bundles::{bundle_count, push_bundle};
+pub use empties::glue_none;
 pub use making::run_making;
 pub use rows::{push_row, rows_count};
 pub use sources::{push_source, size_at, source_count};
