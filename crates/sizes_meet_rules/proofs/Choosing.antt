@@ -25,7 +25,7 @@ use Rattle.sizes_meet_rules.proofs.Filling.{function_holes, Is_inferred, Taken_a
 use Rattle.sizes_meet_rules.proofs.Fitting.{is_simple, is_wanted, wanted_way, Plain_arrows, Function_met, unread_met, taken_compared, irregular_ok, each_alone, data_alone}
 use Rattle.sizes_meet_rules.proofs.Flat_types.{flat, flat_is, flat_each}
 use Rattle.sizes_meet_rules.proofs.Forming.{data_of, formed_replaced}
-use Rattle.sizes_meet_rules.proofs.Frames.{Frames, pushed, fill, filled, fill_keeps, opened_filled, not_filled}
+use Rattle.sizes_meet_rules.proofs.Frames.{Frames, pushed, fill, filled, fill_keeps, fill_back, opened_filled, not_filled}
 use Rattle.sizes_meet_rules.proofs.Meeting.{Then_ok, then_ok, same_ok, each_scoped, order}
 use Rattle.sizes_meet_rules.proofs.Reading.{Extends, found_settled, found_still, Opens, met_reads}
 use Rattle.sizes_meet_rules.proofs.Replacing.{each_as}
@@ -578,7 +578,7 @@ module _ (n : ℕ) (types : Variable → Ty) (P : Free → Type 0) (settled : (d
 
         whole_formed_now : Formed whole
         unfolding Formed
-        whole_formed_now = (V.formed, R.formed, none_means P (λ m. m < 0) V.value value_alone, (λ e. none_means P (λ m. m ≡ 0 → ⊥) R.size R.alone), (λ e. refl))
+        whole_formed_now = (V.formed, R.formed, none_means P (λ m. m < 0) V.value value_alone, (λ e. none_means P (λ m. m ≡ 0 → ⊥) R.size R.alone), (λ m l e. absurd (omega (arith, l))))
 
         stays_all : All_stay σ τ
         stays_all v h = R.stays v (stays_taken n types P settled Vars next found V.stays v h) ∙ V.stays v h
@@ -647,7 +647,7 @@ module _ (n : ℕ) (types : Variable → Ty) (P : Free → Type 0) (settled : (d
 
           low_positions : Each (Of_positions (λ m. m < k)) 1 (filled ε 1 x)
           unfolding replaced Formed
-          low_positions = (formed_replaced (fill ε) (fill_keeps ε) (Fun k x s) 0 whole_formed).2
+          low_positions = (formed_replaced (fill ε) (fill_keeps ε) (fill_back ε) (Fun k x s) 0 whole_formed).2
 
           used_there : Instance k (filled ε 1 x) (filled ε 1 s) zero V.value R.size fn fm δ ρ
           used_there = record {
