@@ -1,5 +1,5 @@
 -- The form of sized types: what is kept under replacing, and where branches meet.
-use Rattle.std.proofs.Common.{◌≡◌, ℕ, suc, ◌+◌, ◌<◌, ◌≤◌, Bool, true, false, cond, nat_eq, Option, Some, None, refl, sym, ap, ◌∙◌, arith}
+use Rattle.std.proofs.Common.{◌≡◌, ℕ, suc, ◌+◌, ◌<◌, ◌≤◌, Bool, true, false, cond, Option, Some, None, refl, sym, ap, ◌∙◌, arith}
 use Rattle.std.specs.Prelude.{min}
 use Rattle.fut_scalar.specs.declared.scalar.ScalarType.TheVariants as sort
 use Rattle.fut_scalar.specs.declared.scalar.IntType.TheVariants as int
@@ -8,7 +8,7 @@ use Rattle.fut_sizes.specs.Scopes.{i64_size}
 use Rattle.fut_types.specs.declared.Head.{Head}
 use Rattle.fut_types.specs.declared.Head.TheVariants as head
 use Rattle.fut_types.specs.Types.{Ty, Var, Made, none, more, Kinds, rank, least, cap}
-use Rattle.sized_types.specs.Sizes.{Free, Unknown, Dim, At, Bound, Variable, Inferred, Written, Size, Hole, Open, Level, Built, Fun, Sizes, no_size, size_and, erased, all_erased, is_dim, replaced, all_replaced, renaming, given, placed, binding, levels}
+use Rattle.sized_types.specs.Sizes.{Free, Unknown, Dim, At, Bound, Variable, Inferred, Written, Size, Hole, Open, Level, Built, Fun, Sizes, no_size, size_and, erased, all_erased, is_dim, replaced, all_replaced, renaming, placed, binding, levels}
 use Rattle.fut_sizes.specs.Agreeing.{kept, all_kept}
 use Rattle.fut_sizes.specs.Rules.{Each_hole, Each_holes}
 use Rattle.fut_sizes.specs.Scoping.{is_number}
