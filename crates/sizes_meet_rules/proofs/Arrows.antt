@@ -8,7 +8,7 @@ use Rattle.fut_flat.specs.Erased.{FlatPattern}
 use Rattle.fut_types.specs.declared.Kind.{Kind}
 use Rattle.fut_types.specs.Types.{Sub, Kinds}
 use Rattle.fut_typing.specs.Names.{Names}
-use Rattle.sized_types.specs.Sizes.{Free, Const, Name, Own, Unknown, Slot, Dim, At, Bound, Size, Hole, Open, Level, Built, Fun, Sizes, no_size, size_and, is_free, is_dim, given, opened, placed, binding, bound}
+use Rattle.sized_types.specs.Sizes.{Free, Const, Name, Own, Unknown, Slot, Dim, At, Bound, Size, Hole, Open, Level, Built, Fun, Sizes, no_size, size_and, is_free, is_dim, replaced, all_replaced, given, opened, placed, binding, bound}
 use Rattle.sized_types.specs.Standing.{stands, some_stands}
 use Rattle.fut_sizes.specs.Functions.{stands_among, sizes_in, position_from, or_position, value_name, value_position, is_own, Taking, frame_of, arrow}
 use Rattle.fut_sizes.specs.Rules.{Outside, Away, Pattern_takes, Named_value, Binder}
@@ -72,6 +72,22 @@ module _ (position : Free → Option ℕ) where
       here : (j : ℕ) (d : Dim) → Scoped (λ x. position x ≡ None → Q x) j d → Scoped Q (suc j) (binding position j d)
       here j (At x) h = one j x (position x) refl h
       here j (Bound k i) l = omega (arith, l)
+
+  -- and back
+  mutual
+    unfolding Each Each_all replaced all_replaced
+
+    bound_back : (In : Free → Type 0) (Q : ℕ → Type 0) (t : Size) (j : ℕ) → Each (Scoped In) j t → Each (Of_positions Q) (suc j) (replaced (binding position) j t) → Each (Scoped (λ x. (m : ℕ) → position x ≡ Some m → Q m)) j t
+    bound_back In Q (Hole v) j h b = tt
+    bound_back In Q (Open n v u) j h b = tt
+    bound_back In Q (Level (At x) t) j h b = ((λ m e. subst (λ o. Of_positions Q (suc j) (placed j x o)) e b.0 refl), bound_back In Q t j h.1 b.1)
+    bound_back In Q (Level (Bound k i) t) j h b = (h.0, bound_back In Q t j h.1 b.1)
+    bound_back In Q (Built k ts) j h b = all_bound_back In Q ts j h b
+    bound_back In Q (Fun k p r) j h b = (bound_back In Q p (suc j) h.0 b.0, bound_back In Q r (suc j) h.1 b.1)
+
+    all_bound_back : (In : Free → Type 0) (Q : ℕ → Type 0) (ts : Sizes) (j : ℕ) → Each_all (Scoped In) j ts → Each_all (Of_positions Q) (suc j) (all_replaced (binding position) j ts) → Each_all (Scoped (λ x. (m : ℕ) → position x ≡ Some m → Q m)) j ts
+    all_bound_back In Q no_size j h b = tt
+    all_bound_back In Q (size_and t ts) j h b = (bound_back In Q t j h.0 b.0, all_bound_back In Q ts j h.1 b.1)
 
   pub bound_low : (Q : ℕ → Type 0) (t : Size) → Each (Scoped (λ x. (m : ℕ) → position x ≡ Some m → Q m)) 0 t → Each (Of_positions Q) 1 (bound position t)
   bound_low Q t h = each_replaced (binding position) (Scoped (λ x. (m : ℕ) → position x ≡ Some m → Q m)) (Of_positions Q) suc (λ j. refl) here t 0 h
@@ -391,6 +407,13 @@ module _ (N : Names) (types : Sub) (home : ℕ → ℕ) (K : Kinds) (places : Ki
         by_value : (r : Option ℕ) → value_position (length chosen) q (value_name p) x ≡ r → or_position (value_position (length chosen) q (value_name p) x) (position_from (suc (length chosen)) met x) ≡ Some m → ⊥
         by_value (Some j) f g = known_not_value (value_name p) (value_home types home K places p q plain) x o (length chosen) j f
         by_value None f g = known_not_met x o (met_found (suc (length chosen)) x m (ap (λ r. or_position r (position_from (suc (length chosen)) met x)) (sym f) ∙ g))
+
+    -- each size that is chosen stands in the parameter
+    frame_listed : (i : ℕ) → i < length chosen → frame met (nth chosen i) ≡ Some i
+    frame_listed i b = ap (λ r. or_position r (or_position (value_position (length chosen) q (value_name p) (nth chosen i)) (position_from (suc (length chosen)) met (nth chosen i)))) (once_found chosen (sizes_once (is_own bs q) own) 0 i b) ∙ ap Some (let z : 0 + i ≡ i = omega arith in z)
+
+    pub chosen_there : (i : ℕ) → i < length chosen → Each (Of_positions (λ m. m ≡ i → ⊥)) 1 (bound (frame met) own) → ⊥
+    chosen_there i b h = listed_has (λ x. (m : ℕ) → frame met x ≡ Some m → m ≡ i → ⊥) (is_own bs q) own (bound_back (frame met) (λ x. stands own x ≡ true) (λ m. m ≡ i → ⊥) own 0 own_stands h) (nth chosen i) (among_nth chosen i b) i (frame_listed i b) refl
 
     pub frame_chosen : (x : Free) → stands own x ≡ true → (m : ℕ) → frame met x ≡ Some m → m < length chosen
     frame_chosen x s m e = by_own (standing_own x s)

@@ -26,7 +26,7 @@ use Rattle.sizes_meet_rules.specs.Plain.{Written_data, Is_name, Plain_pattern, P
 use Rattle.sizes_meet_rules.proofs.Binding.{Behind, value_behind, not_taken}
 use Rattle.sizes_meet_rules.proofs.Functions.{number_closed}
 use Rattle.sizes_meet_rules.proofs.Heading.{size_known, head_later}
-use Rattle.sizes_meet_rules.proofs.Forming.{renaming_keeps, formed_replaced}
+use Rattle.sizes_meet_rules.proofs.Forming.{renaming_keeps, renaming_back, formed_replaced}
 use Rattle.sizes_meet_rules.proofs.Meeting.{then_ok, same_ok, refused_ok, Met_in, With_met, met_no_slot, met_outside, In_nodes, elsewhere_narrower, says_more}
 use Rattle.sizes_meet_rules.proofs.Naming.{Named_by, Stands_there, known_same, general_same, named_among, named_there, Head_name, With_head, judged_all, judged_with, known_with, known_wider}
 use Rattle.sizes_meet_rules.proofs.Operating.{with_says}
@@ -301,7 +301,7 @@ module _ (N : Names) (types : Sub) (home : ℕ → ℕ) (K : Kinds) (places : Ki
 
       read_taken : renamed (taken_by (what sizes S.after) (bind_ids sizes)) w ≡ t
       read_taken = sym (reads_taken sizes S.after w w_data w_settled)
-          ∙ (met_reads mid mid none_opened (renamed (as_slot sizes) w) t (counted (length sizes) nothing_found) S.after (data_renamed sizes S.after (as_slot sizes) w w_data) is_data (formed_replaced (renaming (as_slot sizes)) (renaming_keeps (as_slot sizes)) w 0 whole_says.0.formed) says_value.formed
+          ∙ (met_reads mid mid none_opened (renamed (as_slot sizes) w) t (counted (length sizes) nothing_found) S.after (data_renamed sizes S.after (as_slot sizes) w w_data) is_data (formed_replaced (renaming (as_slot sizes)) (renaming_keeps (as_slot sizes)) (renaming_back (as_slot sizes)) w 0 whole_says.0.formed) says_value.formed
           (slots_open sizes S.after mid mid w w_data w_settled) settled (erased_replaced (renaming (as_slot sizes)) w 0 ∙ whole_says.1) S.met).0
 
       all_named : (c : ℕ) → is_among (bind_ids sizes) c ≡ true → stands w (Name c) ≡ true

@@ -1,249 +1,54 @@
 -- A function that chooses sizes is matched with the function type that a primitive wants, whose parameters are data that is found already:
--- it is used at these sizes, and has the type that is wanted. What it gives has no arrays.
-use Rattle.std.proofs.Common.{◌≡◌, ◌⊎◌, ℕ, zero, suc, ◌+◌, ◌-◌, ◌<◌, ◌≤◌, Bool, true, false, ◌||◌, ◌&&◌, cond, nat_eq, Ok, Err, refl, sym, ap, ◌∙◌, subst, arith, inl, inr, eq-eqb, lt-ltb, le-ltb}
+-- it is used at these sizes, and has the type that is wanted.
+use Rattle.std.proofs.Common.{◌≡◌, ◌⊎◌, ℕ, zero, suc, ◌+◌, ◌<◌, ◌≤◌, Bool, true, false, ◌||◌, ◌&&◌, cond, nat_eq, Ok, Err, refl, sym, ap, ◌∙◌, subst, arith, inl, inr, eq-eqb, lt-ltb, le-ltb, ltb-true}
 use Rattle.std.specs.Prelude.{nat_lt}
 use Rattle.fut_scalar.specs.declared.scalar.ScalarType.{ScalarType}
 use Rattle.fut_scalar.specs.declared.scalar.ScalarType.TheVariants as scalar
 use Rattle.std.proofs.lemmas.Bool.{ne_eqb}
 use Rattle.fut_types.specs.declared.Head.TheVariants as head
 use Rattle.fut_types.specs.declared.Kind.{Kind}
-use Rattle.fut_types.specs.Types.{Ty, Made, more, none, fun_ty, Sub, Kinds, rank, least, level}
-use Rattle.sized_types.specs.Sizes.{Free, Const, Name, Own, Unknown, Slot, Dim, At, Bound, Variable, Size, Hole, Open, Level, Built, Fun, Sizes, no_size, size_and, erased, all_erased, replaced, all_replaced, given, opened, has}
+use Rattle.fut_types.specs.Types.{Ty, Made, more, none, fun_ty, Sub, Kinds, HasKind, rank, least, level}
+use Rattle.sized_types.specs.Sizes.{Free, Const, Unknown, Slot, Dim, At, Bound, Variable, Size, Hole, Open, Level, Built, Fun, Sizes, no_size, size_and, erased, all_erased, replaced, all_replaced, given, opened, has}
 use Rattle.sized_types.specs.Standing.{has_hole, some_hole}
-use Rattle.fut_sizes.specs.Agreeing.{Answer, Irregular, then_do}
+use Rattle.fut_sizes.specs.Agreeing.{Answer, Irregular}
 use Rattle.fut_sizes.specs.Applications.{is_arrow}
 use Rattle.fut_sizes.specs.Functions.{is_slot}
-use Rattle.fut_sizes.specs.Matching.{Found, counted, found_size, found_dim, read, all_read, Opened, none_opened, inside, lifted, dim_in, in_opened, Way, data_way, turned, to_result, is_unknown, meet_size, meet_dims, past_frame, found_frame, left_frame, right_frame, frame_numbers, is_irregular, compared, all_compared, meet, all_meet}
+use Rattle.fut_sizes.specs.Matching.{Found, counted, found_size, read, all_read, Opened, none_opened, inside, dim_in, in_opened, Way, data_way, turned, to_result, is_unknown, meet_dims, meet_variable, past_frame, left_frame, right_frame, frame_numbers, is_irregular, meet, all_meet}
 use Rattle.fut_sizes.specs.Rules.{Each_hole, filled as with_types, all_filled as all_with_types}
 use Rattle.fut_sizes.specs.Scopes.{instance, instances}
 use Rattle.fut_sizes.specs.Suiting.{Each, Each_all, Scoped, Of_positions, Data, All_data, Free_of, Instance, Suits, suits_same, suits_function}
 use Rattle.sizes_meet_rules.specs.Known.{Formed, All_formed}
 use Rattle.sizes_meet_rules.specs.Plain.{Flat_type, Data_function}
-use Rattle.sizes_meet_rules.proofs.Applying.{Function_size, function_is, Slots, met_stays}
+use Rattle.sizes_meet_rules.proofs.Applying.{Function_size, function_is, read_settled, Slots, met_stays}
 use Rattle.sizes_meet_rules.proofs.Chains.{Alone, alone_scoped, alone_at, alone_replaced}
 use Rattle.sizes_meet_rules.proofs.Filling.{function_holes, Is_inferred, Taken_at, Taking, Stays, stays_taken, Agrees, agrees_before, other_variable, dims_as}
 use Rattle.sizes_meet_rules.proofs.Fitting.{is_simple, is_wanted, wanted_way, Plain_arrows, Function_met, unread_met, taken_compared, irregular_ok, each_alone, data_alone}
 use Rattle.sizes_meet_rules.proofs.Flat_types.{flat, flat_is, flat_each}
 use Rattle.sizes_meet_rules.proofs.Forming.{data_of, formed_replaced}
-use Rattle.sizes_meet_rules.proofs.Frames.{Frames, pushed, fill, filled, fill_keeps, opened_filled, not_filled}
-use Rattle.sizes_meet_rules.proofs.Meeting.{Then_ok, then_ok, same_ok, each_scoped, order}
-use Rattle.sizes_meet_rules.proofs.Reading.{Extends, found_settled, found_still, Opens, met_reads}
-use Rattle.sizes_meet_rules.proofs.Replacing.{each_as}
-use Rattle.sizes_meet_rules.proofs.Settling.{Is_settled}
+use Rattle.sizes_meet_rules.proofs.Frames.{Frames, pushed, fill, filled, fill_keeps, fill_back, opened_filled, not_filled}
+use Rattle.sizes_meet_rules.proofs.Meeting.{Then_ok, then_ok, same_ok, each_scoped}
+use Rattle.sizes_meet_rules.proofs.Opening.{Any_free, found_way, as_data, read_again, Framed_below, frame_sizes, next_framed, opened_data, agreed_before, filled_as, Known_frames, read_in, not_there, hole_read, counted_size, kept_in, none_means}
+use Rattle.sizes_meet_rules.proofs.Reading.{Extends, found_still, Opens, met_reads}
+use Rattle.sizes_meet_rules.proofs.Replacing.{each_as, hole_as, hole_replaced}
+use Rattle.sizes_meet_rules.proofs.Settling.{Is_settled, Any_variable}
 
 both_true : (a b : Bool) → a && b ≡ true → (a ≡ true) × (b ≡ true)
 both_true true b e = (refl, e)
 both_true false b e = absurd (let z : false ≡ true = e in cc)
 
-abbrev Any_free : Free → Type 0
-Any_free d = Unit {0}
-
--- ---- data that is found is compared with data that is wanted
-
--- as what a function takes
-abbrev found_way : Bool → Way
-found_way regular = record { left_wanted = false; in_result = false; regular = regular }
-
-way_same : (regular : Bool) (at : ℕ) (y e : Free) (σ : Found) → meet_size (found_way regular) at y e σ ≡ meet_size data_way at y e σ
-way_same regular at (Slot i) (Slot j) σ = refl
-way_same regular at (Slot i) e σ = refl
-way_same regular at y (Slot j) σ = refl
-way_same regular at y e σ = refl
-
-module _ (regular : Bool) (lo at : ℕ) where
-  mutual
-    unfolding compared all_compared meet all_meet Each Each_all Data All_data
-
-    as_data : (t u : Size) (σ τ : Found) → Data t → Data u → Each (Alone Any_free) 0 t → Each (Alone Any_free) 0 u → compared (found_way regular) at t u σ ≡ Ok τ → meet lo data_way at none_opened u none_opened t σ ≡ Ok τ
-    as_data (Open n v x) u σ τ dt du at1 au q = absurd dt
-    as_data (Fun k p r) u σ τ dt du at1 au q = absurd dt
-    as_data t (Open n v x) σ τ dt du at1 au q = absurd du
-    as_data t (Fun k p r) σ τ dt du at1 au q = absurd du
-    as_data (Hole v) (Hole w) σ τ dt du at1 au q = q
-    as_data (Hole v) (Level e u) σ τ dt du at1 au q = q
-    as_data (Hole v) (Built g us) σ τ dt du at1 au q = q
-    as_data (Level d t) (Hole w) σ τ dt du at1 au q = q
-    as_data (Level d t) (Built g us) σ τ dt du at1 au q = q
-    as_data (Level (Bound k i) t) (Level e u) σ τ dt du at1 au q = absurd at1.0
-    as_data (Level (At d) t) (Level (Bound k i) u) σ τ dt du at1 au q = absurd au.0
-    as_data (Level (At d) t) (Level (At e) u) σ τ dt du at1 au q =
-        let r = then_ok (meet_dims (found_way regular) at (At d) (At e) σ) q in
-        ap (λ y. then_do y (λ found. meet lo data_way at none_opened u none_opened t found)) (sym (way_same regular at (found_size σ e) (found_size σ d) σ) ∙ r.done) ∙ as_data t u r.first τ dt du at1.1 au.1 r.rest
-    as_data (Built h ts) (Hole w) σ τ dt du at1 au q = q
-    as_data (Built h ts) (Level e u) σ τ dt du at1 au q = q
-    as_data (Built h ts) (Built g us) σ τ dt du at1 au q = all_as_data ts us σ τ dt du at1 au q
-
-    all_as_data : (ts us : Sizes) (σ τ : Found) → All_data ts → All_data us → Each_all (Alone Any_free) 0 ts → Each_all (Alone Any_free) 0 us → all_compared (found_way regular) at ts us σ ≡ Ok τ → all_meet lo data_way at none_opened us none_opened ts σ ≡ Ok τ
-    all_as_data no_size no_size σ τ dt du at1 au q = q
-    all_as_data no_size (size_and u us) σ τ dt du at1 au q = q
-    all_as_data (size_and t ts) no_size σ τ dt du at1 au q = q
-    all_as_data (size_and t ts) (size_and u us) σ τ dt du at1 au q =
-        let r = then_ok (compared (found_way regular) at t u σ) q in
-        ap (λ y. then_do y (λ found. all_meet lo data_way at none_opened us none_opened ts found)) (as_data t u σ r.first dt.0 du.0 at1.0 au.0 r.done) ∙ all_as_data ts us r.first τ dt.1 du.1 at1.1 au.1 r.rest
-
--- what is read twice
-module _ (σ τ : Found) (extends : Extends σ τ) (slots : (j : ℕ) → (σ.size j ≡ Slot j) ⊎ (is_slot (σ.size j) ≡ false)) (g : ℕ → Dim → Dim) where
-  found_again : (x : Free) → found_size τ (found_size σ x) ≡ found_size τ x
-  found_again (Slot j) = by_slot (slots j)
-    where
-      by_slot : (σ.size j ≡ Slot j) ⊎ (is_slot (σ.size j) ≡ false) → found_size τ (σ.size j) ≡ τ.size j
-      by_slot (inl z) = ap (found_size τ) z
-      by_slot (inr s) = found_settled τ (σ.size j) s ∙ sym (extends j (σ.size j) s refl)
-  found_again (Const c) = refl
-  found_again (Name c) = refl
-  found_again (Own n c) = refl
-  found_again (Unknown n c) = refl
-
-  dim_again : (d : Dim) → found_dim τ 0 (found_dim σ 0 d) ≡ found_dim τ 0 d
-  dim_again (At x) = ap At (found_again x)
-  dim_again (Bound k i) = refl
-
-  mutual
-    unfolding read all_read replaced all_replaced Data All_data
-
-    read_again : (x : Size) (j : ℕ) → Data x → read τ (read σ (replaced g j x)) ≡ read τ (replaced g j x)
-    read_again (Hole v) j d = refl
-    read_again (Open n v u) j d = absurd d
-    read_again (Level e x) j d = ap (λ w. Level w (read τ (read σ (replaced g j x)))) (dim_again (g j e)) ∙ ap (Level (found_dim τ 0 (g j e))) (read_again x j d)
-    read_again (Built h xs) j d = ap (Built h) (all_read_again xs j d)
-    read_again (Fun k p r) j d = absurd d
-
-    all_read_again : (xs : Sizes) (j : ℕ) → All_data xs → all_read τ (all_read σ (all_replaced g j xs)) ≡ all_read τ (all_replaced g j xs)
-    all_read_again no_size j d = refl
-    all_read_again (size_and x xs) j d = ap (λ w. size_and w (all_read τ (all_read σ (all_replaced g j xs)))) (read_again x j d.0) ∙ ap (size_and (read τ (replaced g j x))) (all_read_again xs j d.1)
-
--- ---- the function types around are opened, so many of them
-
-abbrev pub Framed_below : Opened → ℕ → Frames → Type 0
-Framed_below χ i f = (k m : ℕ) → k < i → χ k m ≡ At (f k m)
-
--- the positions of the function that is found
-abbrev frame_sizes : ℕ → ℕ → ℕ → ℕ → ℕ → Free
-frame_sizes lo next argument k m = cond (nat_lt m k) (Slot (next + m)) (Unknown lo (cond (nat_eq m k) argument (next + m)))
-
-next_framed : (lo next argument k : ℕ) (χ : Opened) (i : ℕ) (f : Frames) → Framed_below χ i f → Framed_below (inside (found_frame lo next argument k) χ) (suc i) (pushed (frame_sizes lo next argument k) f)
-unfolding inside pushed
-next_framed lo next argument k χ i f h zero m l = by_less (nat_lt m k)
-  where
-    by_less : (b : Bool) → cond b (At (Slot (next + m))) (At (Unknown lo (cond (nat_eq m k) argument (next + m)))) ≡ At (cond b (Slot (next + m)) (Unknown lo (cond (nat_eq m k) argument (next + m))))
-    by_less true = refl
-    by_less false = refl
-next_framed lo next argument k χ i f h (suc j) m l = h j m (omega (arith, l))
-
-module _ (P : Free → Type 0) (settled : (d : Free) → P d → is_slot d ≡ false) (χ : Opened) (i : ℕ) (f : Frames) (framed : Framed_below χ i f) where
-  dim_opened : (k m : ℕ) → k < i → dim_in χ 0 (Bound k m) ≡ At (f k m)
-  dim_opened k m l = ap (λ b. cond b (Bound k m) (lifted 0 (χ (k - 0) m))) (le-ltb k 0 (omega arith)) ∙ ap (λ c. lifted 0 (χ c m)) (let z : k - 0 ≡ k = omega arith in z) ∙ ap (lifted 0) (framed k m l)
-
-  -- data that is opened and read
-  module _ (σ : Found) where
-    abbrev Opened_data : Size → Size → Type 0
-    Opened_data x y = Data y × Formed y × Each (Alone Any_free) 0 y × (erased y ≡ erased x)
-
-    one_alone : (d : Dim) → Scoped P i d → Alone Any_free 0 (found_dim σ 0 (dim_in χ 0 d))
-    one_alone (At x) h = tt
-    one_alone (Bound k m) l = subst (λ d. Alone Any_free 0 (found_dim σ 0 d)) (sym (dim_opened k m l)) tt
-
-    mutual
-      unfolding read all_read replaced all_replaced Data All_data Formed All_formed Each Each_all erased all_erased
-
-      opened_data : (x : Size) → Data x → Formed x → Each (Scoped P) i x → Opened_data x (read σ (replaced (dim_in χ) 0 x))
-      opened_data (Hole v) d o h = (tt, o, tt, refl)
-      opened_data (Open n v u) d o h = absurd d
-      opened_data (Level e x) d o h = let r = opened_data x d o h.1 in (r.0, r.1, (one_alone e h.0, r.2), ap (λ u. Made head.Array (more u none)) r.3)
-      opened_data (Built g xs) d o h = let r = all_opened_data xs d o.1 h in (r.0, (o.0, r.1), r.2, ap (Made g) r.3)
-      opened_data (Fun k p r) d o h = absurd d
-
-      all_opened_data : (xs : Sizes) → All_data xs → All_formed xs → Each_all (Scoped P) i xs → All_data (all_read σ (all_replaced (dim_in χ) 0 xs)) × All_formed (all_read σ (all_replaced (dim_in χ) 0 xs)) × Each_all (Alone Any_free) 0 (all_read σ (all_replaced (dim_in χ) 0 xs)) × (all_erased (all_read σ (all_replaced (dim_in χ) 0 xs)) ≡ all_erased xs)
-      all_opened_data no_size d o h = (tt, tt, tt, refl)
-      all_opened_data (size_and x xs) d o h =
-          let a = opened_data x d.0 o.0 h.0 in
-          let b = all_opened_data xs d.1 o.1 h.1 in
-          ((a.0, b.0), (a.1, b.1), (a.2, b.2), ap (λ u. more u (all_erased (all_read σ (all_replaced (dim_in χ) 0 xs)))) a.3 ∙ ap (more (erased x)) b.3)
-
-  -- what the positions stand for in the end, where they are of these sizes
-  abbrev pub Agreed : Found → Frames → Type 0
-  Agreed τ ε = (k m : ℕ) → k < i → P (found_size τ (f k m)) → ε k m ≡ found_size τ (f k m)
-
-  agreed_before : (σ τ : Found) (ε : Frames) → Extends σ τ → Agreed τ ε → Agreed σ ε
-  agreed_before σ τ ε extends a k m l h =
-      let e = found_still σ τ extends (f k m) (found_size σ (f k m)) (settled (found_size σ (f k m)) h) refl in
-      a k m l (subst P (sym e) h) ∙ e
-
-  module _ (τ : Found) (ε : Frames) (agreed : Agreed τ ε) where
-    one_filled : (d : Dim) → Scoped P i d → Scoped P 0 (found_dim τ 0 (dim_in χ 0 d)) → fill ε 0 d ≡ found_dim τ 0 (dim_in χ 0 d)
-    one_filled (At x) h p = ap At (sym (found_settled τ x (settled x h)))
-    one_filled (Bound k m) l p =
-        let e = dim_opened k m l in
-        ap (λ b. cond b (Bound k m) (At (ε (k - 0) m))) (le-ltb k 0 (omega arith)) ∙ ap (λ c. At (ε c m)) (let z : k - 0 ≡ k = omega arith in z) ∙ ap At (agreed k m l (subst (λ d. Scoped P 0 (found_dim τ 0 d)) e p)) ∙ ap (found_dim τ 0) (sym e)
-
-    mutual
-      unfolding read all_read replaced all_replaced Data All_data Each Each_all
-
-      filled_as : (x : Size) → Data x → Each (Scoped P) i x → Each (Scoped P) 0 (read τ (replaced (dim_in χ) 0 x)) → replaced (fill ε) 0 x ≡ read τ (replaced (dim_in χ) 0 x)
-      filled_as (Hole v) d h p = refl
-      filled_as (Open n v u) d h p = absurd d
-      filled_as (Level e x) d h p = ap (λ w. Level w (replaced (fill ε) 0 x)) (one_filled e h.0 p.0) ∙ ap (Level (found_dim τ 0 (dim_in χ 0 e))) (filled_as x d h.1 p.1)
-      filled_as (Built g xs) d h p = ap (Built g) (all_filled_as xs d h p)
-      filled_as (Fun k p1 r) d h p = absurd d
-
-      all_filled_as : (xs : Sizes) → All_data xs → Each_all (Scoped P) i xs → Each_all (Scoped P) 0 (all_read τ (all_replaced (dim_in χ) 0 xs)) → all_replaced (fill ε) 0 xs ≡ all_read τ (all_replaced (dim_in χ) 0 xs)
-      all_filled_as no_size d h p = refl
-      all_filled_as (size_and x xs) d h p = ap (λ w. size_and w (all_replaced (fill ε) 0 xs)) (filled_as x d.0 h.0 p.0) ∙ ap (size_and (read τ (replaced (dim_in χ) 0 x))) (all_filled_as xs d.1 h.1 p.1)
-
--- ---- with one frame less filled
-
-module _ (P : Free → Type 0) (δ : ℕ → Free) (ε : Frames) where
-  one_kept : (j : ℕ) (d : Dim) → Scoped P j (fill (pushed δ ε) j d) → Scoped P (suc j) (fill ε (suc j) d)
-  unfolding pushed
-  one_kept j (At x) h = h
-  one_kept j (Bound k m) h = by_order (order k (suc j)) (order k j)
-    where
-      low : k < suc j → Scoped P (suc j) (fill ε (suc j) (Bound k m))
-      low l = subst (Scoped P (suc j)) (ap (λ b. cond b (Bound k m) (At (ε (k - suc j) m))) (sym (lt-ltb k (suc j) l))) l
-
-      high : suc j ≤ k → Scoped P (suc j) (fill ε (suc j) (Bound k m))
-      high l = subst (Scoped P (suc j)) (sym (ap (λ b. cond b (Bound k m) (At (ε (k - suc j) m))) (le-ltb k (suc j) l)))
-          (subst (Scoped P j) (ap (λ b. cond b (Bound k m) (At (pushed δ ε (k - j) m))) (le-ltb k j (omega (arith, l))) ∙ ap (λ c. At (pushed δ ε c m)) (let z : k - j ≡ suc (k - suc j) = omega (arith, l) in z)) h)
-
-      by_order : (k < suc j) ⊎ (suc j ≤ k) → (k < j) ⊎ (j ≤ k) → Scoped P (suc j) (fill ε (suc j) (Bound k m))
-      by_order (inl l) o = low l
-      by_order (inr l) o = high l
-
-  mutual
-    unfolding replaced all_replaced Each Each_all
-
-    kept_in : (x : Size) (j : ℕ) → Each (Scoped P) j (replaced (fill (pushed δ ε)) j x) → Each (Scoped P) (suc j) (replaced (fill ε) (suc j) x)
-    kept_in (Hole v) j h = tt
-    kept_in (Open n v u) j h = tt
-    kept_in (Level d x) j h = (one_kept j d h.0, kept_in x j h.1)
-    kept_in (Built g xs) j h = all_kept_in xs j h
-    kept_in (Fun k p r) j h = (kept_in p (suc j) h.0, kept_in r (suc j) h.1)
-
-    all_kept_in : (xs : Sizes) (j : ℕ) → Each_all (Scoped P) j (all_replaced (fill (pushed δ ε)) j xs) → Each_all (Scoped P) (suc j) (all_replaced (fill ε) (suc j) xs)
-    all_kept_in no_size j h = tt
-    all_kept_in (size_and x xs) j h = (kept_in x j h.0, all_kept_in xs j h.1)
-
--- what has no size of a frame means no position
-alone_means : (P : Free → Type 0) (Q : ℕ → Type 0) (j : ℕ) (d : Dim) → Alone P j d → Of_positions Q j d
-alone_means P Q j (At x) h = tt
-alone_means P Q j (Bound k m) h = absurd h
-
-none_means : (P : Free → Type 0) (Q : ℕ → Type 0) (t : Size) → Each (Alone P) 0 t → Each (Of_positions Q) 1 t
-none_means P Q t h = each_as (Alone P) (Of_positions Q) (alone_means P Q) t 1 (alone_at P t 0 1 h)
-
--- ---- a function of data, which gives data without arrays
+-- ---- a function of data
 
 abbrev pub Data_arrows : Size → Type 0
 Data_arrows (Fun k x r) = Data x × Data_arrows r
-Data_arrows t = Flat_type (erased t)
+Data_arrows t = Unit {0}
 
-gives_flat : (t : Size) → Data t → Data_arrows t → Flat_type (erased t)
+no_arrows : (t : Size) → Data t → Data_arrows t
 unfolding Data
-gives_flat (Hole v) d a = a
-gives_flat (Open n v u) d a = absurd d
-gives_flat (Level e t) d a = a
-gives_flat (Built g ts) d a = a
-gives_flat (Fun k p r) d a = absurd d
+no_arrows (Hole v) d = tt
+no_arrows (Open n v u) d = absurd d
+no_arrows (Level e t) d = tt
+no_arrows (Built g ts) d = tt
+no_arrows (Fun k p r) d = absurd d
 
 data_plain : (P : Free → Type 0) (t : Size) → Data t → Plain_arrows P t
 unfolding Data
@@ -260,14 +65,6 @@ scalar_kind K (scalar.Int t) u e = subst (λ w. 1 ≤ rank K w) (sym e) (omega a
 scalar_kind K scalar.Bool u e = subst (λ w. 1 ≤ rank K w) (sym e) (omega arith)
 
 -- what such a type tells
-no_flat_function : (s : Size) → Flat_type (erased s) → Data_arrows s
-unfolding erased Flat_type
-no_flat_function (Fun k x r) h = absurd h.0
-no_flat_function (Hole v) h = h
-no_flat_function (Open n v u) h = h
-no_flat_function (Level e t) h = h
-no_flat_function (Built g ts) h = h
-
 module _ (types : Sub) (home : ℕ → ℕ) (K : Kinds) (places : Kind) (data_places : 1 ≤ level places) where
   pub data_function_is : (u : Ty) → Data_function types home K places u → (a : Ty) × ((c : Ty) × (u ≡ fun_ty a c))
   data_function_is (Made head.Fun (more a (more c none))) h = (a, (c, refl))
@@ -283,8 +80,8 @@ module _ (types : Sub) (home : ℕ → ℕ) (K : Kinds) (places : Kind) (data_pl
       parts : Formed (Fun F.chosen F.from F.to)
       parts = subst Formed F.is_function f
 
-      by_result : (Data_function types home K places c → Data_arrows F.to) → Flat_type c ⊎ Data_function types home K places c → Data_arrows F.to
-      by_result more_of (inl k) = no_flat_function F.to (subst Flat_type (sym F.to_typed) k)
+      by_result : (Data_function types home K places c → Data_arrows F.to) → HasKind K places c ⊎ Data_function types home K places c → Data_arrows F.to
+      by_result more_of (inl k) = no_arrows F.to (data_of K F.to parts.1 (subst (λ w. 1 ≤ rank K w) (sym F.to_typed) (omega (arith, data_places, k))))
       by_result more_of (inr k) = more_of k
   arrows_of_type u t f e h = absurd h
 
@@ -485,12 +282,12 @@ module _ (n : ℕ) (types : Variable → Ty) (P : Free → Type 0) (settled : (d
     module _ (q : Variable → Bool) (regular : Bool) (lo at : ℕ) (apart : (b : ℕ) → P (Unknown lo b) → ⊥) (fn fm : ℕ) (two : fn ≡ fm → ⊥) (fresh : (d : Free) → P d → Free_of fn d × Free_of fm d) where
       abbrev Met_at : Size → Type 0
       Met_at p = (b : Bool) (φ χ : Opened) (i : ℕ) (f : Frames) (t : Size) (σ τ : Found) → is_wanted q (λ v. regular) p ≡ true → Each_hole Is_inferred p → Each_hole (λ v. 1 ≤ rank K (types v)) p → Name_says P Vars i t → erased t ≡ erased (instance n types p) → All_taking σ → Slots P settled σ
-          → ((v : Variable) → q v ≡ true → Taken_here σ v) → Framed_below χ i f → (is_arrow p ≡ false → regular ≡ true → has is_unknown (read σ (in_opened χ t)) ≡ false) → meet lo (wanted_way b regular) at φ (instance n types p) χ t σ ≡ Ok τ → Chosen σ τ p t i f
+          → ((v : Variable) → q v ≡ true → Taken_here σ v) → Framed_below χ i f → Known_frames P lo i f σ → (is_arrow p ≡ false → regular ≡ true → has is_unknown (read σ (in_opened χ t)) ≡ false) → meet lo (wanted_way b regular) at φ (instance n types p) χ t σ ≡ Ok τ → Chosen σ τ p t i f
 
       -- what is given is data without arrays
-      flat_result : (p : Size) (b : Bool) (φ χ : Opened) (i : ℕ) (f : Frames) (t : Size) (σ τ : Found) → is_wanted q (λ v. regular) p ≡ true → Each_hole Is_inferred p → Each_hole (λ v. 1 ≤ rank K (types v)) p → Name_says P Vars i t → 1 ≤ rank K (erased t) → erased t ≡ erased (instance n types p) → All_taking σ → Slots P settled σ
+      flat_result : (p : Size) (b : Bool) (φ χ : Opened) (i : ℕ) (f : Frames) (t : Size) (σ τ : Found) → is_wanted q (λ v. regular) p ≡ true → Each_hole Is_inferred p → Each_hole (λ v. 1 ≤ rank K (types v)) p → Name_says P Vars i t → 1 ≤ rank K (erased t) → Flat_type (erased t) → erased t ≡ erased (instance n types p) → All_taking σ → Slots P settled σ
           → ((v : Variable) → q v ≡ true → Taken_here σ v) → (is_arrow p ≡ false → regular ≡ true → has is_unknown (read σ (in_opened χ t)) ≡ false) → meet lo (wanted_way b regular) at φ (instance n types p) χ t σ ≡ Ok τ → Chosen σ τ p t i f
-      flat_result p b φ χ i f t σ τ e inferred kinds says kind typed taking slots taken known z = record {
+      flat_result p b φ χ i f t σ τ e inferred kinds says kind no_arrays typed taking slots taken known z = record {
         taking = F.taking;
         stays = F.stays;
         extends = λ j d s k. ap (λ (g : ℕ → Free). g j) F.size ∙ k;
@@ -511,7 +308,7 @@ module _ (n : ℕ) (types : Variable → Ty) (P : Free → Type 0) (settled : (d
           t_data = data_of K t says.formed kind
 
           t_is : t ≡ flat (erased t)
-          t_is = flat_is t says.formed (gives_flat t t_data says.arrows)
+          t_is = flat_is t says.formed no_arrays
 
           in_itself : Each (Scoped P) 0 t
           in_itself = subst (Each (Scoped P) 0) (sym t_is) (flat_each (Scoped P) 0 (erased t))
@@ -519,10 +316,59 @@ module _ (n : ℕ) (types : Variable → Ty) (P : Free → Type 0) (settled : (d
           F : Function_met n types P settled Vars K σ τ p t
           F = unread_met n types P settled Vars K q regular lo at p b φ χ 0 t σ τ e inferred kinds (record { formed = says.formed; sizes = in_itself; variables = says.variables; arrows = data_plain P t t_data }) typed taking taken (λ k m l. absurd (omega (arith, l))) known z
 
+      -- or data in which no size is met
+      variable_result : (v : Variable) (b : Bool) (φ χ : Opened) (i : ℕ) (f : Frames) (t : Size) (σ τ : Found) → regular ≡ true → Is_inferred v → 1 ≤ rank K (types v) → Name_says P Vars i t → erased t ≡ types v → All_taking σ → Slots P settled σ → ((v : Variable) → q v ≡ true → Taken_here σ v) → Framed_below χ i f → Known_frames P lo i f σ
+          → (regular ≡ true → has is_unknown (read σ (in_opened χ t)) ≡ false) → meet lo (wanted_way b regular) at φ (Open n v (types v)) χ t σ ≡ Ok τ → Chosen σ τ (Hole v) t i f
+      unfolding meet is_wanted is_simple Each_hole instance erased
+      variable_result v b φ χ i f t σ τ e inferred kind says typed taking slots taken framed frames known z = record {
+        taking = F.taking;
+        stays = F.stays;
+        extends = extends_here;
+        slots = λ j. subst (λ (g : ℕ → Free). (g j ≡ Slot j) ⊎ P (g j)) (sym F.size) (slots j);
+        later = F.later;
+        maker = F.maker;
+        here = F.here;
+        size = R;
+        is = F.is;
+        alone = F.alone;
+        formed = O.1;
+        variables = R_holes;
+        typed = O.3;
+        suits = λ ε a. (subst (λ x. Suits x R) (sym (filled_here ε a)) suits_same, subst (Each (Scoped P) 0) (sym (filled_here ε a)) R_sizes);
+      }
+        where
+          t_data : Data t
+          t_data = data_of K t says.formed (subst (λ u. 1 ≤ rank K u) (sym typed) kind)
+
+          R : Size
+          R = read σ (in_opened χ t)
+
+          O : Data R × Formed R × Each (Alone Any_free) 0 R × (erased R ≡ erased t)
+          O = opened_data P settled χ i f framed σ t t_data says.formed says.sizes
+
+          R_sizes : Each (Scoped P) 0 R
+          R_sizes = read_in P settled χ i f framed σ lo frames t t_data says.sizes (known e)
+
+          R_holes : Each_hole Vars R
+          R_holes = hole_read Vars σ (in_opened χ t) (hole_replaced (dim_in χ) Vars t 0 says.variables)
+
+          R_read : read σ (in_opened none_opened R) ≡ R
+          R_read = ap (read σ) (alone_replaced Any_free (dim_in none_opened) (λ j y. refl) R 0 0 O.2) ∙ read_settled σ R 0 (each_scoped P Is_settled settled R 0 R_sizes) (hole_as Vars Any_variable (λ w k. tt) R R_holes)
+
+          F : Function_met n types P settled Vars K σ τ (Hole v) R
+          F = unread_met n types P settled Vars K q regular lo at (Hole v) b φ none_opened 0 R σ τ e inferred kind (record { formed = O.1; sizes = R_sizes; variables = R_holes; arrows = data_plain P R O.0 }) (O.3 ∙ typed) taking taken (λ k m l. absurd (omega (arith, l)))
+              (λ y r. ap (has is_unknown) R_read ∙ known r) (ap (λ y. meet_variable true (wanted_way b regular) at (σ.type n v (types v)) y σ) R_read ∙ z)
+
+          extends_here : Extends σ τ
+          extends_here j d s k = ap (λ (g : ℕ → Free). g j) F.size ∙ k
+
+          filled_here : (ε : Frames) → ((k m : ℕ) → k < i → P (found_size τ (f k m)) → ε k m ≡ found_size τ (f k m)) → filled ε 0 t ≡ R
+          filled_here ε a = filled_as P settled χ i f framed σ ε (agreed_before P settled χ i f framed σ τ ε extends_here a) t t_data says.sizes R_sizes
+
       -- a function of one parameter more
       module _ (p r : Size) (rest : Met_at r) (b : Bool) (φ χ : Opened) (i : ℕ) (f : Frames) (k : ℕ) (x s : Size) (σ τ : Found) (simple : is_simple q p ≡ true) (wanted : is_wanted q (λ v. regular) r ≡ true) (p_inferred : Each_hole Is_inferred p) (r_inferred : Each_hole Is_inferred r) (r_kinds : Each_hole (λ v. 1 ≤ rank K (types v)) r)
           (x_data : Data x) (x_formed : Formed x) (x_sizes : Each (Scoped P) (suc i) x) (s_says : Name_says P Vars (suc i) s) (whole_formed : Formed (Fun k x s)) (x_typed : erased x ≡ erased (instance n types p)) (s_typed : erased s ≡ erased (instance n types r))
-          (taking : All_taking σ) (slots : Slots P settled σ) (taken : (v : Variable) → q v ≡ true → Taken_here σ v) (framed : Framed_below χ i f) (z : meet lo (wanted_way b regular) at φ (Fun zero (instance n types p) (instance n types r)) χ (Fun k x s) σ ≡ Ok τ) where
+          (taking : All_taking σ) (slots : Slots P settled σ) (taken : (v : Variable) → q v ≡ true → Taken_here σ v) (framed : Framed_below χ i f) (frames_known : Known_frames P lo i f σ) (z : meet lo (wanted_way b regular) at φ (Fun zero (instance n types p) (instance n types r)) χ (Fun k x s) σ ≡ Ok τ) where
         abbrev way : Way
         way = wanted_way b regular
 
@@ -563,8 +409,32 @@ module _ (n : ℕ) (types : Variable → Ty) (P : Free → Type 0) (settled : (d
         regular_here : (regular ≡ true → has is_unknown (read found (in_opened right s)) ≡ false) × (meet lo (to_result way) at left (instance n types r) right s found ≡ Ok τ)
         regular_here = irregular_ok n types P settled Vars K regular (has is_unknown (read found (in_opened right s))) at (meet lo (to_result way) at left (instance n types r) right s found) τ X.rest
 
+        -- a size that is chosen stands in the parameter, so that it is found
+        known_here : Known_frames P lo (suc i) frames found
+        unfolding pushed Formed
+        known_here (suc j) m l = by_frame (frames_known j m (omega (arith, l)))
+          where
+            by_frame : P (found_size σ (f j m)) ⊎ ((b : ℕ) × (f j m ≡ Unknown lo b)) → P (found_size found (f j m)) ⊎ ((b : ℕ) × (f j m ≡ Unknown lo b))
+            by_frame (inl h) = inl (subst P (sym (found_still next found V.extends (f j m) (found_size σ (f j m)) (settled (found_size σ (f j m)) h) (counted_size (frame_numbers zero k (instance n types r) s) σ (f j m)))) h)
+            by_frame (inr w) = inr w
+        known_here zero m l = by_less (nat_lt m k) refl
+          where
+            is_low : nat_lt m k ≡ true → positions m ≡ Slot (past + m)
+            is_low e = ap (λ c. cond c (Slot (past + m)) (Unknown lo (cond (nat_eq m k) (σ.next + zero) (past + m)))) e
+
+            by_slot : m < k → nat_lt m k ≡ true → (found.size (past + m) ≡ Slot (past + m)) ⊎ P (found.size (past + m)) → P (found_size found (positions m)) ⊎ ((b : ℕ) × (positions m ≡ Unknown lo b))
+            by_slot l e (inr h) = inl (subst (λ d. P (found_size found d)) (sym (is_low e)) h)
+            by_slot l e (inl y) = absurd (whole_formed.4 m l (not_there P settled right (suc i) frames framed_here found m absent x x_data x_sizes (subst (Each (Scoped P) 0) (sym V.reads) V.sizes)))
+              where
+                absent : (j : ℕ) → j ≡ m → P (found_size found (positions j)) → ⊥
+                absent j w h = let c : true ≡ false = ap is_slot (sym y) ∙ settled (found.size (past + m)) (subst (λ d. P (found_size found d)) (ap positions w ∙ is_low e) h) in cc
+
+            by_less : (c : Bool) → nat_lt m k ≡ c → P (found_size found (positions m)) ⊎ ((b : ℕ) × (positions m ≡ Unknown lo b))
+            by_less true e = by_slot (ltb-true m k e) e (V.slots (past + m))
+            by_less false e = inr (cond (nat_eq m k) (σ.next + zero) (past + m), ap (λ c. cond c (Slot (past + m)) (Unknown lo (cond (nat_eq m k) (σ.next + zero) (past + m)))) e)
+
         R : Chosen found τ r s (suc i) frames
-        R = rest true left right (suc i) frames s found τ wanted r_inferred r_kinds s_says s_typed V.taking V.slots (λ v e. stays_taken n types P settled Vars next found V.stays v (taken v e)) framed_here (λ e. regular_here.0) regular_here.1
+        R = rest true left right (suc i) frames s found τ wanted r_inferred r_kinds s_says s_typed V.taking V.slots (λ v e. stays_taken n types P settled Vars next found V.stays v (taken v e)) framed_here known_here (λ e. regular_here.0) regular_here.1
 
         abbrev whole : Size
         whole = Fun zero V.value R.size
@@ -578,7 +448,7 @@ module _ (n : ℕ) (types : Variable → Ty) (P : Free → Type 0) (settled : (d
 
         whole_formed_now : Formed whole
         unfolding Formed
-        whole_formed_now = (V.formed, R.formed, none_means P (λ m. m < 0) V.value value_alone, (λ e. none_means P (λ m. m ≡ 0 → ⊥) R.size R.alone), (λ e. refl))
+        whole_formed_now = (V.formed, R.formed, none_means P (λ m. m < 0) V.value value_alone, (λ e. none_means P (λ m. m ≡ 0 → ⊥) R.size R.alone), (λ m l e. absurd (omega (arith, l))))
 
         stays_all : All_stay σ τ
         stays_all v h = R.stays v (stays_taken n types P settled Vars next found V.stays v h) ∙ V.stays v h
@@ -647,7 +517,7 @@ module _ (n : ℕ) (types : Variable → Ty) (P : Free → Type 0) (settled : (d
 
           low_positions : Each (Of_positions (λ m. m < k)) 1 (filled ε 1 x)
           unfolding replaced Formed
-          low_positions = (formed_replaced (fill ε) (fill_keeps ε) (Fun k x s) 0 whole_formed).2
+          low_positions = (formed_replaced (fill ε) (fill_keeps ε) (fill_back ε) (Fun k x s) 0 whole_formed).2
 
           used_there : Instance k (filled ε 1 x) (filled ε 1 s) zero V.value R.size fn fm δ ρ
           used_there = record {
@@ -692,9 +562,9 @@ module _ (n : ℕ) (types : Variable → Ty) (P : Free → Type 0) (settled : (d
         }
 
       pub chosen_met : (p : Size) → Met_at p
-      unfolding is_wanted is_simple Each_hole Each instance instances erased all_erased Formed
-      chosen_met (Hole v) b φ χ i f t σ τ e inferred kinds says typed taking slots taken framed known z = flat_result (Hole v) b φ χ i f t σ τ e inferred kinds says (subst (λ u. 1 ≤ rank K u) (sym typed) kinds) typed taking slots taken known z
-      chosen_met (Fun zero p r) b φ χ i f t σ τ e inferred kinds says typed taking slots taken framed known z = by_function (chosen_met r) F.chosen F.from F.to F.is_function F.from_typed F.to_typed
+      unfolding is_wanted is_simple Each_hole Each instance instances erased all_erased Formed Flat_type
+      chosen_met (Hole v) b φ χ i f t σ τ e inferred kinds says typed taking slots taken framed frames known z = variable_result v b φ χ i f t σ τ e inferred kinds says typed taking slots taken framed frames (known refl) z
+      chosen_met (Fun zero p r) b φ χ i f t σ τ e inferred kinds says typed taking slots taken framed frames known z = by_function (chosen_met r) F.chosen F.from F.to F.is_function F.from_typed F.to_typed
         where
           F : Function_size t (erased (instance n types p)) (erased (instance n types r))
           F = function_is t (erased (instance n types p)) (erased (instance n types r)) says.formed typed
@@ -703,18 +573,18 @@ module _ (n : ℕ) (types : Variable → Ty) (P : Free → Type 0) (settled : (d
           w = both_true (is_simple q p) (is_wanted q (λ v. regular) r) e
 
           by_says : Met_at r → (l : ℕ) (x s : Size) → Name_says P Vars i (Fun l x s) → erased x ≡ erased (instance n types p) → erased s ≡ erased (instance n types r) → meet lo (wanted_way b regular) at φ (Fun zero (instance n types p) (instance n types r)) χ (Fun l x s) σ ≡ Ok τ → Chosen σ τ (Fun zero p r) (Fun l x s) i f
-          by_says rest l x s o tx ts y = chosen_arrow p r rest b φ χ i f l x s σ τ w.0 w.1 inferred.0 inferred.1 kinds.1 o.arrows.0 o.formed.0 o.sizes.0 (record { formed = o.formed.1; sizes = o.sizes.1; variables = o.variables.1; arrows = o.arrows.1 }) o.formed tx ts taking slots taken framed y
+          by_says rest l x s o tx ts y = chosen_arrow p r rest b φ χ i f l x s σ τ w.0 w.1 inferred.0 inferred.1 kinds.1 o.arrows.0 o.formed.0 o.sizes.0 (record { formed = o.formed.1; sizes = o.sizes.1; variables = o.variables.1; arrows = o.arrows.1 }) o.formed tx ts taking slots taken framed frames y
 
           by_function : Met_at r → (l : ℕ) (x s : Size) → t ≡ Fun l x s → erased x ≡ erased (instance n types p) → erased s ≡ erased (instance n types r) → Chosen σ τ (Fun zero p r) t i f
           by_function rest l x s g tx ts = subst (λ y. Chosen σ τ (Fun zero p r) y i f) (sym g) (by_says rest l x s (subst (Name_says P Vars i) g says) tx ts (ap (λ y. meet lo (wanted_way b regular) at φ (Fun zero (instance n types p) (instance n types r)) χ y σ) (sym g) ∙ z))
-      chosen_met (Fun (suc l) p r) b φ χ i f t σ τ e inferred kinds says typed taking slots taken framed known z = absurd (let y : false ≡ true = e in cc)
-      chosen_met (Built (head.Scalar s) no_size) b φ χ i f t σ τ e inferred kinds says typed taking slots taken framed known z = flat_result (Built (head.Scalar s) no_size) b φ χ i f t σ τ e inferred kinds says (scalar_kind K s (erased t) typed) typed taking slots taken known z
-      chosen_met (Built (head.Scalar s) (size_and y ts)) b φ χ i f t σ τ e inferred kinds says typed taking slots taken framed known z = absurd (let w : false ≡ true = e in cc)
-      chosen_met (Built head.Array ts) b φ χ i f t σ τ e inferred kinds says typed taking slots taken framed known z = absurd (let w : false ≡ true = e in cc)
-      chosen_met (Built head.Tuple ts) b φ χ i f t σ τ e inferred kinds says typed taking slots taken framed known z = absurd (let w : false ≡ true = e in cc)
-      chosen_met (Built (head.Record m) ts) b φ χ i f t σ τ e inferred kinds says typed taking slots taken framed known z = absurd (let w : false ≡ true = e in cc)
-      chosen_met (Built head.Fun ts) b φ χ i f t σ τ e inferred kinds says typed taking slots taken framed known z = absurd (let w : false ≡ true = e in cc)
-      chosen_met (Built (head.Rigid m c) ts) b φ χ i f t σ τ e inferred kinds says typed taking slots taken framed known z = absurd (let w : false ≡ true = e in cc)
-      chosen_met (Built (head.Abstract m c) ts) b φ χ i f t σ τ e inferred kinds says typed taking slots taken framed known z = absurd (let w : false ≡ true = e in cc)
-      chosen_met (Open m v u) b φ χ i f t σ τ e inferred kinds says typed taking slots taken framed known z = absurd inferred
-      chosen_met (Level d x) b φ χ i f t σ τ e inferred kinds says typed taking slots taken framed known z = absurd (let w : false ≡ true = e in cc)
+      chosen_met (Fun (suc l) p r) b φ χ i f t σ τ e inferred kinds says typed taking slots taken framed frames known z = absurd (let y : false ≡ true = e in cc)
+      chosen_met (Built (head.Scalar s) no_size) b φ χ i f t σ τ e inferred kinds says typed taking slots taken framed frames known z = flat_result (Built (head.Scalar s) no_size) b φ χ i f t σ τ e inferred kinds says (scalar_kind K s (erased t) typed) (subst Flat_type (sym typed) (tt, tt)) typed taking slots taken known z
+      chosen_met (Built (head.Scalar s) (size_and y ts)) b φ χ i f t σ τ e inferred kinds says typed taking slots taken framed frames known z = absurd (let w : false ≡ true = e in cc)
+      chosen_met (Built head.Array ts) b φ χ i f t σ τ e inferred kinds says typed taking slots taken framed frames known z = absurd (let w : false ≡ true = e in cc)
+      chosen_met (Built head.Tuple ts) b φ χ i f t σ τ e inferred kinds says typed taking slots taken framed frames known z = absurd (let w : false ≡ true = e in cc)
+      chosen_met (Built (head.Record m) ts) b φ χ i f t σ τ e inferred kinds says typed taking slots taken framed frames known z = absurd (let w : false ≡ true = e in cc)
+      chosen_met (Built head.Fun ts) b φ χ i f t σ τ e inferred kinds says typed taking slots taken framed frames known z = absurd (let w : false ≡ true = e in cc)
+      chosen_met (Built (head.Rigid m c) ts) b φ χ i f t σ τ e inferred kinds says typed taking slots taken framed frames known z = absurd (let w : false ≡ true = e in cc)
+      chosen_met (Built (head.Abstract m c) ts) b φ χ i f t σ τ e inferred kinds says typed taking slots taken framed frames known z = absurd (let w : false ≡ true = e in cc)
+      chosen_met (Open m v u) b φ χ i f t σ τ e inferred kinds says typed taking slots taken framed frames known z = absurd inferred
+      chosen_met (Level d x) b φ χ i f t σ τ e inferred kinds says typed taking slots taken framed frames known z = absurd (let w : false ≡ true = e in cc)

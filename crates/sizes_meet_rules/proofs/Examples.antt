@@ -326,7 +326,7 @@ sum_types n = cond (is_any (0 ∷ 3 ∷ []) n) (fun_ty rows (array_ty i64_ty)) (
 
 sums_plain : Plain_term sum_types home K kind.Data N sums 0
 unfolding Formed_type Formed_types Flat_type Flat_types rank least
-sums_plain = ((refl, tt, omega arith, tt), (inl (omega arith), (inl (omega arith, (inr (inr (refl, inr (omega arith, inl (tt, tt)), tt)), tt)), inl refl)))
+sums_plain = ((refl, tt, omega arith, tt), (inl (omega arith), (inl (omega arith, (inr (inr (refl, inr (omega arith, inl (omega arith)), tt)), tt)), inl refl)))
 
 abbrev sums_part : Answer (Done Part)
 sums_part = sized N sum_types sums [] 0 nothing no_state
@@ -340,6 +340,39 @@ its_sums = refl
 
 sums_rules : (u : Done Size) → Typed N kind.Data sums 0 no_types K sum_types → sums_size ≡ Ok u → Sized N sum_types u.state.nodes home sums 0 nothing_known
 sums_rules u t e = let x = then_ok sums_part e in (sizing_meets_rules N sum_types home K kind.Data sums 0 no_state x.first u (omega arith) sums_plain t x.done x.rest).0
+
+-- ---- a name that takes and gives rows: `def f xs = xs` and `def main xss = map f xss`
+
+abbrev same : FlatTerm
+same = Lambda (pattern_and (Bound_pattern (b 1)) no_pattern) (named 1)
+
+abbrev each_row : FlatTerm
+each_row = Lambda (pattern_and (Bound_pattern (b 4)) no_pattern) (Apply (Apply (primitive prim.Map) (named 0)) (named 4))
+
+abbrev of_rows : List Defined
+of_rows = record { name = Bound_pattern (b 0); parameters = []; value = same } ∷ record { name = Bound_pattern (b 3); parameters = []; value = each_row } ∷ []
+
+-- 0 to 3 are those of f, 4 to 11 those of main: 7 is the application of `map`, 10 the use of f
+abbrev each_types : Sub
+each_types n = cond (is_any (0 ∷ 1 ∷ 10 ∷ []) n) (fun_ty (array_ty i64_ty) (array_ty i64_ty)) (cond (is_any (4 ∷ 5 ∷ 8 ∷ []) n) (fun_ty rows rows) (cond (is_any (6 ∷ 7 ∷ 11 ∷ []) n) rows (cond (nat_eq n 9) (fun_ty (fun_ty (array_ty i64_ty) (array_ty i64_ty)) (fun_ty rows rows)) (array_ty i64_ty))))
+
+abbrev each_homes : ℕ → ℕ
+each_homes n = cond (nat_eq n 0) 0 (cond (nat_eq n 1) 2 (cond (nat_eq n 3) 4 6))
+
+each_plain : Plain_definitions each_types each_homes K kind.Data N of_rows 0
+unfolding Formed_type Formed_types rank least
+each_plain = (
+  (refl, inl (tt, (tt, tt), tt, headed_none each_types each_homes K kind.Data N same tt 1, ((refl, tt, omega arith, tt), inl refl))),
+  ((refl, inl (tt, (tt, tt), tt, headed_none each_types each_homes K kind.Data N each_row tt 5, ((refl, tt, omega arith, tt), (inl (omega arith), (inl (omega arith, (inr (inr (refl, inr (omega arith, inl (omega arith)), tt)), inl refl)), inl refl))))), tt),
+)
+
+-- main gives rows of the sizes that it takes
+its_each : then_do (sizing N each_types of_rows) (λ s. Ok (s 4)) ≡ Ok (Fun 2 (Level (Bound 0 0) (Level (Bound 0 1) (scalar_size (scalar.Int int.I64)))) (Level (Bound 0 0) (Level (Bound 0 1) (scalar_size (scalar.Int int.I64)))))
+unfolding agree all_agree kept all_kept leaving type_levels all_type_levels of_type of_types all_settled parts_settled data_met functions_met all_matched applied collected all_collected sizes_in function_size chosen_in quantified closed filled all_filled read all_read opened_inside compared all_compared meet all_meet elements_agree slice_size indexed updated operation sized_type prim_size sizing type_of type_in instance instances used taken all_taken fields_taken bound_by erased all_erased is_free is_dim levels all_levels levels_within all_levels_within replaced all_replaced has some_has takes some_takes is_open some_open matched lacking all_lacking differing all_differing turns_from pattern_noted patterns_noted fields_noted sized all_sized turns_sized condition_sized right_sized inner_sized part_of changed_part has_sizes all_have_sizes fields_have_sizes with_sizes all_with_sizes fields_with_sizes ascribed coerced coercion parameter_size declared
+its_each = refl
+
+each_rules : (nodes : ℕ → Size) → Program_typed N kind.Data of_rows K each_types → sizing N each_types of_rows ≡ Ok nodes → Program_sized N each_types nodes each_homes of_rows
+each_rules nodes t e = (program_sizing_meets_rules N each_types each_homes K kind.Data of_rows nodes (omega arith) each_plain t e).0
 
 -- ---- a definition that is a number, and one that takes it as a size: `def n = 10` and `def main x = 0..<n`
 

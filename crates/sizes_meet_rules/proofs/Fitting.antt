@@ -14,8 +14,8 @@ use Rattle.fut_sizes.specs.Functions.{is_slot}
 use Rattle.fut_sizes.specs.Matching.{Found, type_found, counted, found_size, found_dim, read, all_read, Opened, inside, lifted, dim_in, in_opened, Way, turned, to_result, is_unknown, meet_size, meet_dim, meet_dims, any_size, with_any_sizes, open_takes, meet_variable, past_frame, found_frame, left_frame, right_frame, frame_numbers, is_irregular, compared, all_compared, meet, all_meet}
 use Rattle.fut_sizes.specs.Rules.{Each_hole, filled as with_types, all_filled as all_with_types}
 use Rattle.fut_sizes.specs.Scopes.{instance, instances}
-use Rattle.fut_sizes.specs.Suiting.{Each, Each_all, Scoped, Data, All_data}
-use Rattle.sizes_meet_rules.specs.Known.{Is_made, No_sizes, Formed, All_formed}
+use Rattle.fut_sizes.specs.Suiting.{Each, Each_all, Scoped, Of_positions, Data, All_data}
+use Rattle.sizes_meet_rules.specs.Known.{Is_made, Formed, All_formed}
 use Rattle.sizes_meet_rules.specs.Plain.{Flat_type, Flat_function}
 use Rattle.sizes_meet_rules.proofs.Applying.{Function_size, function_is, read_settled}
 use Rattle.sizes_meet_rules.proofs.Chains.{Gives, Alone, alone_scoped, alone_at, alone_replaced}
@@ -262,15 +262,12 @@ gives K (Built head.Fun ts) f h = absurd f.0
 gives K (Built (head.Rigid n k) ts) f h = absurd f.0
 gives K (Built (head.Abstract n k) ts) f h = data_of K (Built (head.Abstract n k) ts) f h
 gives K (Fun zero p r) f h = (flat_is p f.0 h.0, gives K r f.1 h.1)
-gives K (Fun (suc k) p r) f h = let z = f.4 (subst No_sizes (sym (flat_is p f.0 h.0)) (flat_each (λ j d. ⊥) 0 (erased p))) in omega (arith, z)
+gives K (Fun (suc k) p r) f h = f.4 0 (omega arith) (subst (Each (Of_positions (λ m. m ≡ 0 → ⊥)) 1) (sym (flat_is p f.0 h.0)) (flat_each (Of_positions (λ m. m ≡ 0 → ⊥)) 1 (erased p)))
 
 module _ (types : Sub) (home : ℕ → ℕ) (K : Kinds) (places : Kind) (data_places : 1 ≤ level places) where
   no_data_function : (a b : Ty) → HasKind K places (fun_ty a b) → ⊥
   unfolding rank least
   no_data_function a b h = let z : level places ≤ min 0 (min (rank K a) (min (rank K b) 4)) = h in omega (arith, z, data_places)
-
-  no_sizes_flat : (t : Size) → Formed t → Flat_type (erased t) → No_sizes t
-  no_sizes_flat t f h = subst No_sizes (sym (flat_is t f h)) (flat_each (λ j d. ⊥) 0 (erased t))
 
   pub function_gives : (u : Ty) → HasKind K places u ⊎ Flat_function types home K places u → Gives_type K u
   function_gives u (inl h) = data_gives K u (omega (arith, data_places, h))
@@ -286,7 +283,7 @@ module _ (types : Sub) (home : ℕ → ℕ) (K : Kinds) (places : Kind) (data_pl
   plain_arrows P (Fun zero p r) f (inl h) = absurd (no_data_function (erased p) (erased r) h)
   plain_arrows P (Fun zero p r) f (inr h) = let z = flat_is p f.0 h.0 in ((subst Data (sym z) (flat_data (erased p)), subst (Each (Alone P) 0) (sym z) (flat_each (Alone P) 0 (erased p))), plain_arrows P r f.1 h.1)
   plain_arrows P (Fun (suc k) p r) f (inl h) = no_data_function (erased p) (erased r) h
-  plain_arrows P (Fun (suc k) p r) f (inr h) = let z = f.4 (no_sizes_flat p f.0 h.0) in omega (arith, z)
+  plain_arrows P (Fun (suc k) p r) f (inr h) = f.4 0 (omega arith) (subst (Each (Of_positions (λ m. m ≡ 0 → ⊥)) 1) (sym (flat_is p f.0 h.0)) (flat_each (Of_positions (λ m. m ≡ 0 → ⊥)) 1 (erased p)))
 
 -- ---- a lambda is matched
 

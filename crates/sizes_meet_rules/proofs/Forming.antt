@@ -1,5 +1,5 @@
 -- The form of sized types: what is kept under replacing, and where branches meet.
-use Rattle.std.proofs.Common.{◌≡◌, ℕ, suc, ◌+◌, ◌<◌, ◌≤◌, Bool, true, false, cond, nat_eq, Option, Some, None, refl, sym, ap, ◌∙◌, arith}
+use Rattle.std.proofs.Common.{◌≡◌, ℕ, suc, ◌+◌, ◌<◌, ◌≤◌, Bool, true, false, cond, Option, Some, None, refl, sym, ap, ◌∙◌, arith}
 use Rattle.std.specs.Prelude.{min}
 use Rattle.fut_scalar.specs.declared.scalar.ScalarType.TheVariants as sort
 use Rattle.fut_scalar.specs.declared.scalar.IntType.TheVariants as int
@@ -8,7 +8,7 @@ use Rattle.fut_sizes.specs.Scopes.{i64_size}
 use Rattle.fut_types.specs.declared.Head.{Head}
 use Rattle.fut_types.specs.declared.Head.TheVariants as head
 use Rattle.fut_types.specs.Types.{Ty, Var, Made, none, more, Kinds, rank, least, cap}
-use Rattle.sized_types.specs.Sizes.{Free, Unknown, Dim, At, Bound, Variable, Inferred, Written, Size, Hole, Open, Level, Built, Fun, Sizes, no_size, size_and, erased, all_erased, is_dim, replaced, all_replaced, renaming, given, placed, binding, levels}
+use Rattle.sized_types.specs.Sizes.{Free, Unknown, Dim, At, Bound, Variable, Inferred, Written, Size, Hole, Open, Level, Built, Fun, Sizes, no_size, size_and, erased, all_erased, is_dim, replaced, all_replaced, renaming, placed, binding, levels}
 use Rattle.fut_sizes.specs.Agreeing.{kept, all_kept}
 use Rattle.fut_sizes.specs.Rules.{Each_hole, Each_holes}
 use Rattle.fut_sizes.specs.Scoping.{is_number}
@@ -28,13 +28,14 @@ binding_keeps position Q m j (At x) l h = one (position x)
     one (Some i) = λ e. absurd (omega (arith, e, l))
 binding_keeps position Q m j (Bound k i) l h = h
 
-pub given_keeps : (δ : ℕ → Free) (Q : ℕ → Type 0) (m j : ℕ) (d : Dim) → m ≤ j → Of_positions Q m d → Of_positions Q m (given δ j d)
-given_keeps δ Q m j (At x) l h = tt
-given_keeps δ Q m j (Bound k i) l h = one (nat_eq (suc k) j)
-  where
-    one : (b : Bool) → Of_positions Q m (cond b (At (δ i)) (Bound k i))
-    one true = tt
-    one false = h
+-- and back: no position of the frame goes away
+pub renaming_back : (ρ : Free → Free) (Q : ℕ → Type 0) (m j : ℕ) (d : Dim) → m ≤ j → Of_positions Q m (renaming ρ j d) → Of_positions Q m d
+renaming_back ρ Q m j (At x) l h = tt
+renaming_back ρ Q m j (Bound k i) l h = h
+
+pub binding_back : (position : Free → Option ℕ) (Q : ℕ → Type 0) (m j : ℕ) (d : Dim) → m ≤ j → Of_positions Q m (binding position j d) → Of_positions Q m d
+binding_back position Q m j (At x) l h = tt
+binding_back position Q m j (Bound k i) l h = h
 
 -- a type that is i64
 abbrev pub is_i64_ty : Ty → Bool
@@ -94,22 +95,6 @@ number_replaced g (Built h no_size) j = refl
 number_replaced g (Built h (size_and t ts)) j = refl
 number_replaced g (Fun k p r) j = refl
 
--- what is replaced has sizes where it had some
-module _ (g : ℕ → Dim → Dim) where
-  mutual
-    unfolding Each Each_all replaced all_replaced
-
-    pub no_sizes_before : (t : Size) (i j : ℕ) → Each (λ l d. ⊥) i (replaced g j t) → Each (λ l d. ⊥) i t
-    no_sizes_before (Hole v) i j h = tt
-    no_sizes_before (Open n v u) i j h = tt
-    no_sizes_before (Level d t) i j h = absurd h.0
-    no_sizes_before (Built k ts) i j h = all_no_sizes_before ts i j h
-    no_sizes_before (Fun k p r) i j h = (no_sizes_before p (suc i) (suc j) h.0, no_sizes_before r (suc i) (suc j) h.1)
-
-    all_no_sizes_before : (ts : Sizes) (i j : ℕ) → Each_all (λ l d. ⊥) i (all_replaced g j ts) → Each_all (λ l d. ⊥) i ts
-    all_no_sizes_before no_size i j h = tt
-    all_no_sizes_before (size_and t ts) i j h = (no_sizes_before t i j h.0, all_no_sizes_before ts i j h.1)
-
 module _ (g : ℕ → Dim → Dim) (keeps : (Q : ℕ → Type 0) (m j : ℕ) (d : Dim) → m ≤ j → Of_positions Q m d → Of_positions Q m (g j d)) where
   mutual
     unfolding Each Each_all replaced all_replaced
@@ -125,6 +110,21 @@ module _ (g : ℕ → Dim → Dim) (keeps : (Q : ℕ → Type 0) (m j : ℕ) (d 
     all_low_replaced Q no_size m j l h = tt
     all_low_replaced Q (size_and t ts) m j l h = (low_replaced Q t m j l h.0, all_low_replaced Q ts m j l h.1)
 
+module _ (g : ℕ → Dim → Dim) (keeps : (Q : ℕ → Type 0) (m j : ℕ) (d : Dim) → m ≤ j → Of_positions Q m d → Of_positions Q m (g j d)) (back : (Q : ℕ → Type 0) (m j : ℕ) (d : Dim) → m ≤ j → Of_positions Q m (g j d) → Of_positions Q m d) where
+  mutual
+    unfolding Each Each_all replaced all_replaced
+
+    low_before : (Q : ℕ → Type 0) (t : Size) (m j : ℕ) → m ≤ j → Each (Of_positions Q) m (replaced g j t) → Each (Of_positions Q) m t
+    low_before Q (Hole v) m j l h = tt
+    low_before Q (Open n v u) m j l h = tt
+    low_before Q (Level d t) m j l h = (back Q m j d l h.0, low_before Q t m j l h.1)
+    low_before Q (Built k ts) m j l h = all_low_before Q ts m j l h
+    low_before Q (Fun k p r) m j l h = (low_before Q p (suc m) (suc j) (omega (arith, l)) h.0, low_before Q r (suc m) (suc j) (omega (arith, l)) h.1)
+
+    all_low_before : (Q : ℕ → Type 0) (ts : Sizes) (m j : ℕ) → m ≤ j → Each_all (Of_positions Q) m (all_replaced g j ts) → Each_all (Of_positions Q) m ts
+    all_low_before Q no_size m j l h = tt
+    all_low_before Q (size_and t ts) m j l h = (low_before Q t m j l h.0, all_low_before Q ts m j l h.1)
+
   mutual
     unfolding Formed All_formed replaced all_replaced
 
@@ -133,7 +133,7 @@ module _ (g : ℕ → Dim → Dim) (keeps : (Q : ℕ → Type 0) (m j : ℕ) (d 
     formed_replaced (Open n v u) j h = h
     formed_replaced (Level d t) j h = formed_replaced t j h
     formed_replaced (Built k ts) j h = (h.0, all_formed_replaced ts j h.1)
-    formed_replaced (Fun k p r) j h = (formed_replaced p (suc j) h.0, formed_replaced r (suc j) h.1, low_replaced (λ i. i < k) p 1 (suc j) (omega arith) h.2, λ e. low_replaced (λ i. i ≡ k → ⊥) r 1 (suc j) (omega arith) (h.3 (sym (number_replaced g p (suc j)) ∙ e)), λ e. h.4 (no_sizes_before g p 0 (suc j) e))
+    formed_replaced (Fun k p r) j h = (formed_replaced p (suc j) h.0, formed_replaced r (suc j) h.1, low_replaced g keeps (λ i. i < k) p 1 (suc j) (omega arith) h.2, (λ e. low_replaced g keeps (λ i. i ≡ k → ⊥) r 1 (suc j) (omega arith) (h.3 (sym (number_replaced g p (suc j)) ∙ e))), (λ i l e. h.4 i l (low_before (λ m. m ≡ i → ⊥) p 1 (suc j) (omega arith) e)))
 
     all_formed_replaced : (ts : Sizes) (j : ℕ) → All_formed ts → All_formed (all_replaced g j ts)
     all_formed_replaced no_size j h = tt

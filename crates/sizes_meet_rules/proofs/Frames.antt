@@ -83,6 +83,10 @@ fill_keeps ε Q m j (Bound k i) l h = by_less (nat_lt k j)
     by_less true = h
     by_less false = tt
 
+pub fill_back : (ε : Frames) (Q : ℕ → Type 0) (m j : ℕ) (d : Dim) → m ≤ j → Of_positions Q m (fill ε j d) → Of_positions Q m d
+fill_back ε Q m j (At x) l h = tt
+fill_back ε Q m j (Bound k i) l h = λ e. subst (Of_positions Q m) (ap (λ b. cond b (Bound k i) (At (ε (k - j) i))) (lt-ltb k j (omega (arith, e, l)))) h e
+
 -- what names no frame around
 module _ (In : Free → Type 0) (ε : Frames) where
   unmoved : (j : ℕ) (d : Dim) → Scoped In j d → fill ε j d ≡ d

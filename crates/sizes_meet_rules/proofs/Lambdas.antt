@@ -11,7 +11,7 @@ use Rattle.fut_sizes.specs.Rules.{Each_hole, filled as with_types}
 use Rattle.fut_sizes.specs.Scopes.{instance, instances}
 use Rattle.fut_sizes.specs.Steps.{State, Done, Step, ask, and_then, give}
 use Rattle.fut_sizes.specs.Suiting.{Each, Scoped, Of_positions, Data}
-use Rattle.sizes_meet_rules.specs.Known.{is_i64_size, No_sizes, Formed, All_formed}
+use Rattle.sizes_meet_rules.specs.Known.{is_i64_size, Formed, All_formed}
 use Rattle.sizes_meet_rules.proofs.Applying.{Function_size, function_is}
 use Rattle.sizes_meet_rules.proofs.Forming.{data_of}
 use Rattle.sizes_meet_rules.proofs.Chains.{All_kinds, data_kinds as kinds_of_data, arrows_of, Takes_all, Taken_by, Given, Waiting_given, argument_by, here, opened_by, after as found_after, wants as early_wants, last_found, given_wants, alone_scoped, All_data, Has_arrows, one_function, function_step, data_passed, no_function_met, kept_maker, Alone, Function_taken}
@@ -118,7 +118,7 @@ module _ (P : Free → Type 0) (Vars : Variable → Type 0) (K : Kinds) (sub : S
       W : Function_size t (sub g.node) (arrows_of sub gs u)
       W = function_is t (sub g.node) (arrows_of sub gs u) f e
 
-      parts : Formed W.from × Formed W.to × Each (Of_positions (λ i. i < W.chosen)) 1 W.from × (is_i64_size W.from ≡ false → Each (Of_positions (λ i. i ≡ W.chosen → ⊥)) 1 W.to) × (No_sizes W.from → W.chosen ≡ 0)
+      parts : Formed W.from × Formed W.to × Each (Of_positions (λ i. i < W.chosen)) 1 W.from × (is_i64_size W.from ≡ false → Each (Of_positions (λ i. i ≡ W.chosen → ⊥)) 1 W.to) × ((i : ℕ) → i < W.chosen → Each (Of_positions (λ m. m ≡ i → ⊥)) 1 W.from → ⊥)
       parts = subst Formed W.is_function f
 
       kinds : (Data_given P Vars K sub g ⊎ Function_taken W.from g.size) × Kinds_taken P Vars K sub gs W.to

@@ -30,7 +30,7 @@ use Rattle.sizes_meet_rules.specs.Plain.{Formed_type, Is_lambda, Is_bound, Are_s
 use Rattle.sizes_meet_rules.proofs.Applying.{Function_size, function_is}
 use Rattle.sizes_meet_rules.proofs.Binding.{Leaves, leaves, left_name, not_taken, function_behind, behind_elsewhere}
 use Rattle.sizes_meet_rules.proofs.Bound.{width, Bound_in, scope_behind, In_parts, Binds, split, pattern_plain, plain_binds, binds}
-use Rattle.sizes_meet_rules.proofs.Forming.{data_of, renaming_keeps, formed_replaced}
+use Rattle.sizes_meet_rules.proofs.Forming.{data_of, renaming_keeps, renaming_back, formed_replaced}
 use Rattle.sizes_meet_rules.proofs.Generalising.{closed_of, with_function, known_general, lambda_arrow, generalised, Behind_function, function_judged}
 use Rattle.sizes_meet_rules.proofs.Heading.{headed_none, known_headed, known_headless}
 use Rattle.sizes_meet_rules.proofs.Meeting.{then_ok, asked, same_ok, each_scoped, Met_in, With_met, met_wider, met_no_slot, met_outside, met_settled, says_more, says_settled, elsewhere_narrower, away_of, In_nodes, Inner, Meets, Waits, finished_meets, function_knows}
@@ -88,7 +88,7 @@ module _ (N : Names) (types : Sub) (home : ℕ → ℕ) (K : Kinds) (places : Ki
     left_says u r L h = subst (λ w. Says (With_met In lo hi) Vars w) (sym L.result) (record {
       sizes = each_replaced (renaming (leave lo all_names)) (Scoped (With_met In2 at hi)) (Scoped (With_met In lo hi)) (λ j. j) (λ j. refl) turned u 0 h.sizes;
       variables = hole_replaced (renaming (leave lo all_names)) Vars u 0 h.variables;
-      formed = formed_replaced (renaming (leave lo all_names)) (renaming_keeps (leave lo all_names)) u 0 h.formed;
+      formed = formed_replaced (renaming (leave lo all_names)) (renaming_keeps (leave lo all_names)) (renaming_back (leave lo all_names)) u 0 h.formed;
     })
       where
         turned : (j : ℕ) (d : Dim) → Scoped (With_met In2 at hi) j d → Scoped (With_met In lo hi) j (renaming (leave lo all_names) j d)

@@ -30,6 +30,7 @@ pub mod Chains
 pub mod Filling
 pub mod Alike
 pub mod Fitting
+pub mod Opening
 pub mod Choosing
 pub mod Coming
 pub mod Lambdas

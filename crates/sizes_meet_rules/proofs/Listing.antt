@@ -254,24 +254,3 @@ without_among ds (x ∷ xs) b e = by_choice (stands_among ds (Name x)) (without_
     by_choice : (c : Bool) → (is_among (without ds xs) b ≡ true → is_among xs b ≡ true) → is_among (cond c (without ds xs) (x ∷ without ds xs)) b ≡ true → cond (nat_eq b x) true (is_among xs b) ≡ true
     by_choice true go e = among_later (x ∷ []) xs b (go e)
     by_choice false go e = by_name (nat_eq b x) go e
-
--- ---- where no size stands, none is listed
-
-module _ (q : Free → Bool) where
-  mutual
-    unfolding collected all_collected Each Each_all
-
-    none_collected : (t : Size) (j : ℕ) (ds : List Free) → Each (λ i d. ⊥) j t → collected q t ds ≡ ds
-    none_collected (Hole v) j ds h = refl
-    none_collected (Open n v u) j ds h = refl
-    none_collected (Level d t) j ds h = absurd h.0
-    none_collected (Built k ts) j ds h = all_none_collected ts j ds h
-    none_collected (Fun k p r) j ds h = ap (collected q r) (none_collected p (suc j) ds h.0) ∙ none_collected r (suc j) ds h.1
-
-    all_none_collected : (ts : Sizes) (j : ℕ) (ds : List Free) → Each_all (λ i d. ⊥) j ts → all_collected q ts ds ≡ ds
-    all_none_collected no_size j ds h = refl
-    all_none_collected (size_and t ts) j ds h = ap (all_collected q ts) (none_collected t j ds h.0) ∙ all_none_collected ts j ds h.1
-
-  pub none_listed : (t : Size) → Each (λ i d. ⊥) 0 t → sizes_in q t ≡ []
-  unfolding sizes_in
-  none_listed t h = none_collected t 0 [] h

@@ -86,7 +86,7 @@ module _ (n : ℕ) (types : Variable → Ty) (P : Free → Type 0) (settled : (d
 
       C : Chosen n types P settled Vars K (made_at (here lo gs) before) x1.first.result p V.own 0 no_frames
       C = chosen_met n types P settled Vars K q regular (here lo gs) g.node apart fn fm two fresh p false ψ none_opened 0 no_frames V.own (made_at (here lo gs) before) x1.first.result L.wanted L.inferred L.kinds says (typed ∙ sym L.typed) taking slots taken
-          (λ j m l. absurd (omega (arith, l))) (λ z. absurd (let y : true ≡ false = sym L.arrow ∙ z in cc)) a1.answer
+          (λ j m l. absurd (omega (arith, l))) (λ j m l. absurd (omega (arith, l))) (λ z. absurd (let y : true ≡ false = sym L.arrow ∙ z in cc)) a1.answer
 
       last : record { result = x1.first.result; state = x1.first.state } ≡ d
       last = same_ok (sym (no_function_met lo regular gs ψ (instance n types r) (found_after lo gs g nothing_found k) arrows (given_data P Vars K sub lo gs o.1) x1.first.result x1.first.state) ∙ x1.rest)

@@ -1,5 +1,5 @@
 -- The sized type that a type has by itself.
-use Rattle.std.proofs.Common.{◌≡◌, ℕ, suc, ◌+◌, ◌<◌, ◌≤◌, refl, ap, ◌∙◌, arith}
+use Rattle.std.proofs.Common.{◌≡◌, ◌⊎◌, ℕ, suc, ◌+◌, ◌<◌, ◌≤◌, refl, ap, ◌∙◌, subst, arith, inl, inr}
 use Rattle.fut_types.specs.declared.Head.TheVariants as head
 use Rattle.fut_types.specs.Types.{Ty, Var, Made, Tys, none, more, fun_ty}
 use Rattle.sized_types.specs.Sizes.{Free, Dim, Size, Sizes, erased, all_erased}
@@ -8,6 +8,7 @@ use Rattle.fut_sizes.specs.Rules.{Each_hole, Each_holes}
 use Rattle.fut_sizes.specs.Suiting.{Each, Each_all, Scoped, Of_positions}
 use Rattle.sizes_meet_rules.specs.Known.{Formed, All_formed}
 use Rattle.sizes_meet_rules.specs.Plain.{Formed_type, Formed_types}
+use Rattle.sizes_meet_rules.proofs.Meeting.{order}
 
 -- its levels are at the positions that the caller chooses
 module _ (Q : ℕ → Type 0) where
@@ -37,26 +38,35 @@ module _ (Q : ℕ → Type 0) where
     of_types_low dims none i j l f h = tt
     of_types_low dims (more t ts) i j l f h = (of_type_low dims t i j l f.0 (λ m x. h m (omega (arith, x))), of_types_low dims ts (type_levels t + i) j l f.1 (λ m x. h m (omega (arith, x))))
 
--- a type whose sized type has no sizes has no levels
-mutual
-  unfolding of_type of_types Formed_type Formed_types Each Each_all type_levels all_type_levels
+-- each level has its number
+module _ (ok : ℕ → Dim → Type 0) where
+  mutual
+    unfolding of_type of_types Formed_type Formed_types Each Each_all type_levels all_type_levels
 
-  no_levels : (dims : ℕ → Dim) (t : Ty) (i j : ℕ) → Formed_type t → Each (λ l d. ⊥) j (of_type dims i t) → type_levels t ≡ 0
-  no_levels dims (Var v) i j f h = absurd f
-  no_levels dims (Made (head.Rigid b k) ts) i j f h = absurd f
-  no_levels dims (Made head.Array none) i j f h = absurd f
-  no_levels dims (Made head.Array (more t none)) i j f h = absurd h.0
-  no_levels dims (Made head.Array (more t (more u us))) i j f h = absurd f
-  no_levels dims (Made head.Fun ts) i j f h = refl
-  no_levels dims (Made (head.Scalar s) none) i j f h = refl
-  no_levels dims (Made (head.Scalar s) (more t ts)) i j f h = absurd f
-  no_levels dims (Made head.Tuple ts) i j f h = all_no_levels dims ts i j f h
-  no_levels dims (Made (head.Record n) ts) i j f h = all_no_levels dims ts i j f h
-  no_levels dims (Made (head.Abstract n d) ts) i j f h = all_no_levels dims ts i j f h
+    level_there : (dims : ℕ → Dim) (t : Ty) (i j : ℕ) → Formed_type t → Each ok j (of_type dims i t) → (m : ℕ) → i ≤ m → m < i + type_levels t → ok j (dims m)
+    level_there dims (Var v) i j f h m l l' = absurd f
+    level_there dims (Made (head.Rigid b k) ts) i j f h m l l' = absurd f
+    level_there dims (Made head.Array none) i j f h m l l' = absurd f
+    level_there dims (Made head.Array (more t none)) i j f h m l l' = by_order (λ k. level_there dims t (suc i) j f h.1 m (omega (arith, k)) (omega (arith, l'))) (order i m)
+      where
+        by_order : (i < m → ok j (dims m)) → (i < m) ⊎ (m ≤ i) → ok j (dims m)
+        by_order go (inl k) = go k
+        by_order go (inr k) = subst (λ n. ok j (dims n)) (let z : i ≡ m = omega (arith, l, k) in z) h.0
+    level_there dims (Made head.Array (more t (more u us))) i j f h m l l' = absurd f
+    level_there dims (Made head.Fun ts) i j f h m l l' = absurd (omega (arith, l, l'))
+    level_there dims (Made (head.Scalar s) none) i j f h m l l' = absurd (omega (arith, l, l'))
+    level_there dims (Made (head.Scalar s) (more t ts)) i j f h m l l' = absurd f
+    level_there dims (Made head.Tuple ts) i j f h m l l' = all_levels_there dims ts i j f h m l l'
+    level_there dims (Made (head.Record n) ts) i j f h m l l' = all_levels_there dims ts i j f h m l l'
+    level_there dims (Made (head.Abstract n d) ts) i j f h m l l' = all_levels_there dims ts i j f h m l l'
 
-  all_no_levels : (dims : ℕ → Dim) (ts : Tys) (i j : ℕ) → Formed_types ts → Each_all (λ l d. ⊥) j (of_types dims i ts) → all_type_levels ts ≡ 0
-  all_no_levels dims none i j f h = refl
-  all_no_levels dims (more t ts) i j f h = let a = no_levels dims t i j f.0 h.0 in let b = all_no_levels dims ts (type_levels t + i) j f.1 h.1 in omega (arith, a, b)
+    all_levels_there : (dims : ℕ → Dim) (ts : Tys) (i j : ℕ) → Formed_types ts → Each_all ok j (of_types dims i ts) → (m : ℕ) → i ≤ m → m < i + all_type_levels ts → ok j (dims m)
+    all_levels_there dims none i j f h m l l' = absurd (omega (arith, l, l'))
+    all_levels_there dims (more t ts) i j f h m l l' = by_order (λ k. level_there dims t i j f.0 h.0 m l k) (λ k. all_levels_there dims ts (type_levels t + i) j f.1 h.1 m (omega (arith, k)) (omega (arith, l'))) (order m (i + type_levels t))
+      where
+        by_order : (m < i + type_levels t → ok j (dims m)) → (i + type_levels t ≤ m → ok j (dims m)) → (m < i + type_levels t) ⊎ (i + type_levels t ≤ m) → ok j (dims m)
+        by_order go rest (inl k) = go k
+        by_order go rest (inr k) = rest k
 
 module _ (P : Free → Type 0) where
   pub record Owned (j : ℕ) (t : Size) (u : Ty) : Type 0 where
@@ -85,7 +95,7 @@ module _ (P : Free → Type 0) where
     of_type_owned dims (Made head.Fun (more p (more r none))) i j f h =
         let a = of_type_owned (in_frame 0) p 0 (suc j) f.0 (λ i. omega arith) in
         let b = of_type_owned (in_frame (suc (type_levels p))) r 0 (suc j) f.1 (λ i. omega arith) in
-        record { sizes = (a.sizes, b.sizes); typed = ap (λ x. fun_ty x (erased (of_type (in_frame (suc (type_levels p))) 0 r))) a.typed ∙ ap (fun_ty p) b.typed; formed = (a.formed, b.formed, of_type_low (λ m. m < type_levels p) (in_frame 0) p 0 1 (omega arith) f.0 (λ m x e. omega (arith, x)), λ n. of_type_low (λ m. m ≡ type_levels p → ⊥) (in_frame (suc (type_levels p))) r 0 1 (omega arith) f.1 (λ m x e z. omega (arith, z)), λ h. no_levels (in_frame 0) p 0 0 f.0 h); variables = (a.variables, b.variables) }
+        record { sizes = (a.sizes, b.sizes); typed = ap (λ x. fun_ty x (erased (of_type (in_frame (suc (type_levels p))) 0 r))) a.typed ∙ ap (fun_ty p) b.typed; formed = (a.formed, b.formed, of_type_low (λ m. m < type_levels p) (in_frame 0) p 0 1 (omega arith) f.0 (λ m x e. omega (arith, x)), (λ n. of_type_low (λ m. m ≡ type_levels p → ⊥) (in_frame (suc (type_levels p))) r 0 1 (omega arith) f.1 (λ m x e z. omega (arith, z))), (λ m l h. level_there (Of_positions (λ k. k ≡ m → ⊥)) (in_frame 0) p 0 1 f.0 h m (omega arith) (omega (arith, l)) refl (omega arith))); variables = (a.variables, b.variables) }
     of_type_owned dims (Made head.Fun (more p (more r (more t ts)))) i j f h = absurd f
     of_type_owned dims (Made (head.Scalar s) none) i j f h = record { sizes = tt; typed = refl; formed = (tt, tt); variables = tt }
     of_type_owned dims (Made (head.Scalar s) (more t ts)) i j f h = absurd f

@@ -23,16 +23,16 @@ use Rattle.fut_sizes.specs.Steps.{State}
 use Rattle.fut_sizes.specs.Suiting.{Each, Each_all, Scoped}
 use Rattle.sizes_meet_rules.specs.Known.{is_i64_size, Known_names, Is_const, Elsewhere, Formed}
 use Rattle.sizes_meet_rules.specs.Plain.{Plain_pattern, Plain_parts, Plain_patterns, parameter, Plain_head, Formed_type}
-use Rattle.sizes_meet_rules.proofs.Arrows.{Is_value, Headed, chosen_stands, value_is, bound_low, frame, frame_chosen, position, May_stand, arrow_back, arrow_scoped, binder, owned_here, standing_own}
+use Rattle.sizes_meet_rules.proofs.Arrows.{Is_value, Headed, chosen_stands, value_is, bound_low, frame, frame_chosen, chosen_there, position, May_stand, arrow_back, arrow_scoped, binder, owned_here, standing_own}
 use Rattle.sizes_meet_rules.proofs.Binding.{Leaves, left_name}
 use Rattle.sizes_meet_rules.proofs.Entering.{Lacks, param, Param_says, Written_in, All_written_in, param_says, param_data, takings, all_bound, All_fit, Own_nodes}
 use Rattle.sizes_meet_rules.proofs.Settling.{Any_variable}
 use Rattle.sizes_meet_rules.proofs.Showing.{sizes_written}
-use Rattle.sizes_meet_rules.proofs.Forming.{no_sizes_before, number_replaced, renaming_keeps, binding_keeps, formed_replaced}
+use Rattle.sizes_meet_rules.proofs.Forming.{number_replaced, renaming_keeps, renaming_back, binding_keeps, binding_back, formed_replaced}
 use Rattle.sizes_meet_rules.proofs.Functions.{no_value, Unknown_met, Unmet, met_unknown, none_met, Entered_in, entered_may, last_may, entered_judged, tells}
 use Rattle.sizes_meet_rules.proofs.Meeting.{In_nodes, Met_in, With_met, met_wider, each_scoped, inside_wider, elsewhere_narrower, Meets}
 use Rattle.sizes_meet_rules.proofs.Naming.{Named_by, each_stands, named_there, known_with, known_wider, With_head, Judged_but, judged_all}
-use Rattle.sizes_meet_rules.proofs.Listing.{listed_is, none_listed, without_or, without_among}
+use Rattle.sizes_meet_rules.proofs.Listing.{listed_is, without_or, without_among}
 use Rattle.sizes_meet_rules.proofs.Taking.{pattern_some, Has_parts, bound_scope, not_bound, Nodes, first_node, among_first, among_later, takes_it}
 use Rattle.sizes_meet_rules.proofs.Replacing.{each_as, each_both, each_replaced, erased_replaced, hole_replaced, hole_as}
 
@@ -157,7 +157,7 @@ module _ (N : Names) (types : Sub) (home : ℕ → ℕ) (K : Kinds) (places : Ki
       body_says = (M.says.sizes, M.says.variables);
       sizes = subst (λ w. Each (Scoped (Rest_in no_pattern In)) 0 w) (sym L.result) (each_replaced (renaming (leave lo parts)) (Scoped (With_met In at hi)) (Scoped (Rest_in no_pattern In)) (λ j. j) (λ j. refl) turned u 0 M.says.sizes);
       variables = subst (λ w. Each_hole Vars w) (sym L.result) (hole_replaced (renaming (leave lo parts)) Vars u 0 M.says.variables);
-      formed = subst Formed (sym L.result) (formed_replaced (renaming (leave lo parts)) (renaming_keeps (leave lo parts)) u 0 M.says.formed);
+      formed = subst Formed (sym L.result) (formed_replaced (renaming (leave lo parts)) (renaming_keeps (leave lo parts)) (renaming_back (leave lo parts)) u 0 M.says.formed);
       typed = ap erased L.result ∙ erased_replaced (renaming (leave lo parts)) u 0 ∙ M.typed;
       here = M.here;
       kept = M.kept;
@@ -212,11 +212,11 @@ module _ (N : Names) (types : Sub) (home : ℕ → ℕ) (K : Kinds) (places : Ki
       arrow_formed : (met : List Free) (mets : (x : Free) → stands_among met x ≡ true → Unknown_met In x) (t : Size) → Each (Scoped (λ x. May_be met x × No_value x)) 0 t → Formed t → Formed (one_arrow met t)
       unfolding Formed
       arrow_formed met mets t m h = (
-        formed_replaced (binding (place met)) (binding_keeps (place met)) (own p q) 0 o.formed,
-        formed_replaced (binding (place met)) (binding_keeps (place met)) t 0 h,
+        formed_replaced (binding (place met)) (binding_keeps (place met)) (binding_back (place met)) (own p q) 0 o.formed,
+        formed_replaced (binding (place met)) (binding_keeps (place met)) (binding_back (place met)) t 0 h,
         bound_low (place met) (λ i. i < many) (own p q) (each_scoped (λ x. stands (own p q) x ≡ true) (λ x. (m : ℕ) → place met x ≡ Some m → m < many) (frame_chosen N types home K places lo at hi q p plain In E l2 (omega (arith, l3)) bs (own p q) o.sizes (own_stands bs In p q o k) head met mets) (own p q) 0 (own_stands bs In p q o k)),
         λ e. bound_low (place met) (λ i. i ≡ many → ⊥) t (each_scoped (λ x. May_be met x × No_value x) (λ x. (i : ℕ) → place met x ≡ Some i → i ≡ many → ⊥) (not_placed met mets (sym (number_replaced (binding (place met)) (own p q) 0) ∙ e)) t 0 m),
-        λ e. ap length (none_listed (is_own bs q) (own p q) (no_sizes_before (binding (place met)) (own p q) 0 0 e)),
+        chosen_there N types home K places lo at hi q p plain In E l2 (omega (arith, l3)) bs (own p q) o.sizes (own_stands bs In p q o k) head met mets,
       )
 
       arrow_variables : (met : List Free) (t : Size) → Each_hole Vars t → Each_hole Vars (one_arrow met t)

@@ -27,7 +27,7 @@ use Rattle.sizes_meet_rules.proofs.Chains.{number_value, Meant, step_in, Given, 
 use Rattle.sizes_meet_rules.proofs.Choosing.{Data_arrows}
 use Rattle.sizes_meet_rules.proofs.Entering.{param_data}
 use Rattle.sizes_meet_rules.proofs.Forming.{is_i64_ty, i64_ty_is, number_typed, formed_replaced}
-use Rattle.sizes_meet_rules.proofs.Frames.{Okay, more, Frames, pushed, pushed_as, fill, fill_keeps, filled, filled_same, opened_filled, filled_says}
+use Rattle.sizes_meet_rules.proofs.Frames.{Okay, more, Frames, pushed, pushed_as, fill, fill_keeps, fill_back, filled, filled_same, opened_filled, filled_says}
 use Rattle.sizes_meet_rules.proofs.Meeting.{order, each_scoped, With_met, met_wider, met_outside, met_settled, elsewhere_narrower, away_of, Inner, Waits, Waits_wide}
 use Rattle.sizes_meet_rules.proofs.Naming.{number_name}
 use Rattle.sizes_meet_rules.proofs.Noting.{Placed, placed_order, All_some, Avoids, uses_avoid, one_use, close, ended, Stages, Unnamed}
@@ -426,7 +426,7 @@ module _ (N : Names) (types : Sub) (home : ℕ → ℕ) (K : Kinds) (places : Ki
           says = record {
             sizes = filled_says P (With_met In lo hi) (λ d i. met_later lo d i from_lo) (ends δ) ok (λ j i x. subst (λ m. With_met In m hi (ends δ j i)) (let y : here lo [] ≡ lo = omega arith in y) (fs j i x)) t 0 e;
             variables = hole_replaced (fill (ends δ)) Vars t 0 o;
-            formed = formed_replaced (fill (ends δ)) (fill_keeps (ends δ)) t 0 f;
+            formed = formed_replaced (fill (ends δ)) (fill_keeps (ends δ)) (fill_back (ends δ)) t 0 f;
           };
           typed = erased_replaced (fill (ends δ)) t 0 ∙ z;
         })
@@ -501,7 +501,7 @@ module _ (N : Names) (types : Sub) (home : ℕ → ℕ) (K : Kinds) (places : Ki
               closed = subst (λ w. Away N types s home (here lo gs) (1 + here lo gs) w) (sym at_function) (each_scoped (With_met In (suc (here lo gs)) hi) (λ d. Outside N types s home (here lo gs) (1 + here lo gs) d) outside (filled (ends δ) 0 (Fun k p r)) 0
                   (filled_says P (With_met In (suc (here lo gs)) hi) (λ d i. met_later (suc (here lo gs)) d i (omega (arith, l))) (ends δ) ok fs (Fun k p r) 0 e));
               inside = λ i. closed_to (frame (here lo gs) next k (number_value g) i);
-              low = (formed_replaced (fill (ends δ)) (fill_keeps (ends δ)) (Fun k p r) 0 fm).2;
+              low = (formed_replaced (fill (ends δ)) (fill_keeps (ends δ)) (fill_back (ends δ)) (Fun k p r) 0 fm).2;
               argument = subst (λ w. Suits (s g.node) w) (argument_here ∙ sym fits ∙ sym (opened_as δ (frame (here lo gs) next k (number_value g)) p)) suits_same;
               base = next;
               known = λ i x. known_low (here lo gs) next k g st behind M (omega arith) l room maker s G J argument_here i x;

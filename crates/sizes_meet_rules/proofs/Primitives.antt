@@ -1,6 +1,7 @@
 -- Primitives that take data: their sized types have a form, name no sizes by themselves, and give what their parameters have.
-use Rattle.std.proofs.Common.{◌≡◌, ◌⊎◌, inl, inr, ℕ, suc, ◌<◌, ◌≤◌, List, [], ◌∷◌, Bool, true, false, not, ◌||◌, ◌&&◌, cond, nat_eq, Some, None, refl, sym, ap, ◌∙◌, subst, arith, eq-eqb, eqb-true, ltb-true}
+use Rattle.std.proofs.Common.{◌≡◌, ◌⊎◌, inl, inr, ℕ, zero, suc, ◌<◌, ◌≤◌, List, [], ◌∷◌, Bool, true, false, not, ◌||◌, ◌&&◌, cond, nat_eq, Some, None, refl, sym, ap, ◌∙◌, subst, arith, eq-eqb, eqb-true, ltb-true}
 use Rattle.std.specs.Prelude.{nat_lt, min}
+use Rattle.std.proofs.lemmas.Bool.{ne_eqb}
 use Rattle.fut_flat.specs.declared.prim.Folding.TheVariants as folding
 use Rattle.fut_flat.specs.declared.prim.Primitive.{Primitive}
 use Rattle.fut_flat.specs.declared.prim.Primitive.TheVariants as prim
@@ -24,7 +25,7 @@ use Rattle.sizes_meet_rules.proofs.Chains.{Given, Has_arrows, Widths, arrows_of}
 use Rattle.sizes_meet_rules.proofs.Filling.{function_holes, data_holes, lambda_holes, Data_fit, Is_inferred, Nice, Arrows}
 use Rattle.sizes_meet_rules.proofs.Fitting.{is_simple, is_wanted}
 use Rattle.sizes_meet_rules.proofs.Lambdas.{Waiting_fit, Data_given, All_data_given, One_given, Lambda_there, One_lambda, Early_function, Early_there, Function_wanted, One_wide}
-use Rattle.sizes_meet_rules.proofs.Meeting.{each_scoped}
+use Rattle.sizes_meet_rules.proofs.Meeting.{order, each_scoped}
 use Rattle.fut_sizes.proofs.Erasing.{primitive_erased}
 use Rattle.sizes_meet_rules.proofs.Replacing.{each_as, hole_as, holes_as}
 use Rattle.sizes_meet_rules.proofs.Naming.{or_first, or_later}
@@ -63,41 +64,6 @@ module _ (q : ℕ → Dim → Bool) where
     all_told no_size j e = tt
     all_told (size_and t ts) j e = let w = both_true (each_is q j t) (all_are q j ts) e in (each_told t j w.0, all_told ts j w.1)
 
--- no size stands in it
-unfoldable mutual
-  has_none : Size → Bool
-  has_none (Hole v) = true
-  has_none (Open n v u) = true
-  has_none (Level d t) = false
-  has_none (Built h ts) = have_none ts
-  has_none (Fun k p r) = has_none p && has_none r
-
-  have_none : Sizes → Bool
-  have_none no_size = true
-  have_none (size_and t ts) = has_none t && have_none ts
-
-are_both : (a b : Bool) → a ≡ true → b ≡ true → a && b ≡ true
-are_both true b e f = f
-are_both false b e f = e
-
-mutual
-  unfolding has_none have_none Each Each_all
-
-  none_told : (t : Size) (j : ℕ) → Each (λ i d. ⊥) j t → has_none t ≡ true
-  none_told (Hole v) j h = refl
-  none_told (Open n v u) j h = refl
-  none_told (Level d t) j h = absurd h.0
-  none_told (Built k ts) j h = all_none_told ts j h
-  none_told (Fun k p r) j h = are_both (has_none p) (has_none r) (none_told p (suc j) h.0) (none_told r (suc j) h.1)
-
-  all_none_told : (ts : Sizes) (j : ℕ) → Each_all (λ i d. ⊥) j ts → have_none ts ≡ true
-  all_none_told no_size j h = refl
-  all_none_told (size_and t ts) j h = are_both (has_none t) (have_none ts) (none_told t j h.0) (all_none_told ts j h.1)
-
-none_chosen : (k : ℕ) (b : Bool) → not b || nat_eq k 0 ≡ true → b ≡ true → k ≡ 0
-none_chosen k true e f = eqb-true k 0 e
-none_chosen k false e f = absurd (let z : false ≡ true = f in cc)
-
 -- positions of the frame around: only chosen ones, not the argument's, and no size by itself
 abbrev chosen_there : ℕ → ℕ → Dim → Bool
 chosen_there k j (At d) = true
@@ -118,6 +84,50 @@ chosen_told k j (Bound m i) e = λ z. ltb-true i k (ap (λ b. cond b (nat_lt i k
 no_value_told : (k j : ℕ) (d : Dim) → no_value_there k j d ≡ true → Of_positions (λ i. i ≡ k → ⊥) j d
 no_value_told k j (At d) e = tt
 no_value_told k j (Bound m i) e = λ z y. let w : false ≡ true = ap not (sym (eq-eqb i k y)) ∙ ap (λ b. cond b (not (nat_eq i k)) true) (sym (eq-eqb (suc m) j z)) ∙ e in cc
+
+-- each position of the frame, up to some, stands there
+unfoldable all_stand : ℕ → Size → Bool
+all_stand zero p = true
+all_stand (suc k) p = not (each_is (no_value_there k) 1 p) && all_stand k p
+
+no_value_tells : (k j : ℕ) (d : Dim) → Of_positions (λ i. i ≡ k → ⊥) j d → no_value_there k j d ≡ true
+no_value_tells k j (At d) h = refl
+no_value_tells k j (Bound m i) h = by_frame (nat_eq (suc m) j) refl
+  where
+    by_frame : (b : Bool) → nat_eq (suc m) j ≡ b → cond b (not (nat_eq i k)) true ≡ true
+    by_frame true e = ap not (ne_eqb i k (h (eqb-true (suc m) j e)))
+    by_frame false e = refl
+
+are_both : (a b : Bool) → a ≡ true → b ≡ true → a && b ≡ true
+are_both true b e f = f
+are_both false b e f = e
+
+module _ (k : ℕ) where
+  mutual
+    unfolding each_is all_are Each Each_all
+
+    each_tells : (t : Size) (j : ℕ) → Each (Of_positions (λ i. i ≡ k → ⊥)) j t → each_is (no_value_there k) j t ≡ true
+    each_tells (Hole v) j h = refl
+    each_tells (Open n v u) j h = refl
+    each_tells (Level d t) j h = are_both (no_value_there k j d) (each_is (no_value_there k) j t) (no_value_tells k j d h.0) (each_tells t j h.1)
+    each_tells (Built g ts) j h = all_tell ts j h
+    each_tells (Fun l p r) j h = are_both (each_is (no_value_there k) (suc j) p) (each_is (no_value_there k) (suc j) r) (each_tells p (suc j) h.0) (each_tells r (suc j) h.1)
+
+    all_tell : (ts : Sizes) (j : ℕ) → Each_all (Of_positions (λ i. i ≡ k → ⊥)) j ts → all_are (no_value_there k) j ts ≡ true
+    all_tell no_size j h = refl
+    all_tell (size_and t ts) j h = are_both (each_is (no_value_there k) j t) (all_are (no_value_there k) j ts) (each_tells t j h.0) (all_tell ts j h.1)
+
+stand_told : (k : ℕ) (p : Size) → all_stand k p ≡ true → (i : ℕ) → i < k → Each (Of_positions (λ m. m ≡ i → ⊥)) 1 p → ⊥
+unfolding all_stand
+stand_told zero p e i l h = omega (arith, l)
+stand_told (suc k) p e i l h = by_order (stand_told k p w.1 i) (order i k)
+  where
+    w : (not (each_is (no_value_there k) 1 p) ≡ true) × (all_stand k p ≡ true)
+    w = both_true (not (each_is (no_value_there k) 1 p)) (all_stand k p) e
+
+    by_order : (i < k → Each (Of_positions (λ m. m ≡ i → ⊥)) 1 p → ⊥) → (i < k) ⊎ (k ≤ i) → ⊥
+    by_order go (inl m) = go m h
+    by_order go (inr m) = let x : i ≡ k = omega (arith, l, m) in let y : false ≡ true = sym (ap not (each_tells k p 1 (subst (λ n. Each (Of_positions (λ c. c ≡ n → ⊥)) 1 p) x h))) ∙ w.0 in cc
 
 framed_told : (j : ℕ) (d : Dim) → framed j d ≡ true → Scoped (λ x. ⊥) j d
 framed_told j (At d) e = let z : false ≡ true = e in cc
@@ -204,7 +214,7 @@ unfoldable mutual
   has_form (Open n v u) = false
   has_form (Level d t) = has_form t
   has_form (Built h ts) = makes h && have_form ts
-  has_form (Fun k p r) = has_form p && (has_form r && (each_is (chosen_there k) 1 p && ((each_is (no_value_there k) 1 r || is_i64_size p) && (not (has_none p) || nat_eq k 0))))
+  has_form (Fun k p r) = has_form p && (has_form r && (each_is (chosen_there k) 1 p && ((each_is (no_value_there k) 1 r || is_i64_size p) && all_stand k p)))
 
   have_form : Sizes → Bool
   have_form no_size = true
@@ -227,13 +237,13 @@ mutual
   form_told (Level d t) e = form_told t e
   form_told (Built h ts) e = let w = both_true (makes h) (have_form ts) e in let r = forms_told ts w.1 in ((makes_told h w.0, r.0), r.1)
   form_told (Fun k p r) e =
-      let w = both_true (has_form p) (has_form r && (each_is (chosen_there k) 1 p && ((each_is (no_value_there k) 1 r || is_i64_size p) && (not (has_none p) || nat_eq k 0)))) e in
-      let x = both_true (has_form r) (each_is (chosen_there k) 1 p && ((each_is (no_value_there k) 1 r || is_i64_size p) && (not (has_none p) || nat_eq k 0))) w.1 in
-      let y = both_true (each_is (chosen_there k) 1 p) ((each_is (no_value_there k) 1 r || is_i64_size p) && (not (has_none p) || nat_eq k 0)) x.1 in
-      let z = both_true (each_is (no_value_there k) 1 r || is_i64_size p) (not (has_none p) || nat_eq k 0) y.1 in
+      let w = both_true (has_form p) (has_form r && (each_is (chosen_there k) 1 p && ((each_is (no_value_there k) 1 r || is_i64_size p) && all_stand k p))) e in
+      let x = both_true (has_form r) (each_is (chosen_there k) 1 p && ((each_is (no_value_there k) 1 r || is_i64_size p) && all_stand k p)) w.1 in
+      let y = both_true (each_is (chosen_there k) 1 p) ((each_is (no_value_there k) 1 r || is_i64_size p) && all_stand k p) x.1 in
+      let z = both_true (each_is (no_value_there k) 1 r || is_i64_size p) (all_stand k p) y.1 in
       let a = form_told p w.0 in
       let b = form_told r x.0 in
-      ((a.0, b.0, each_as (λ i d. chosen_there k i d ≡ true) (Of_positions (λ i. i < k)) (chosen_told k) p 1 (each_told (chosen_there k) p 1 y.0), value_or_number k p r z.0, λ h. none_chosen k (has_none p) z.1 (none_told p 0 h)), (a.1, b.1))
+      ((a.0, b.0, each_as (λ i d. chosen_there k i d ≡ true) (Of_positions (λ i. i < k)) (chosen_told k) p 1 (each_told (chosen_there k) p 1 y.0), value_or_number k p r z.0, stand_told k p z.1), (a.1, b.1))
 
   forms_told : (ts : Sizes) → have_form ts ≡ true → All_formed ts × Each_holes Is_inferred ts
   forms_told no_size e = (tt, tt)
@@ -249,7 +259,7 @@ abbrev is_fine : Bool → Size → Bool
 is_fine regular t = has_form t && (each_is framed 0 t && (each_hole_is (parameter_holes t) t && takes_args (data_holes t) regular t))
 
 fine : (p : Primitive) → is_fine (is_regular p) (prim_size p) ≡ true
-unfolding prim_size sized_type levels all_levels has_form have_form has_none have_none each_is all_are each_hole_is all_holes_are data_holes lambda_holes function_holes has_hole some_hole takes_args is_wanted is_simple is_data are_data
+unfolding prim_size sized_type levels all_levels has_form have_form all_stand each_is all_are each_hole_is all_holes_are data_holes lambda_holes function_holes has_hole some_hole takes_args is_wanted is_simple is_data are_data
 fine prim.Map = refl
 fine prim.Map2 = refl
 fine prim.Map3 = refl
@@ -464,19 +474,20 @@ module _ (n : ℕ) (types : Variable → Ty) where
       all_given_holes no_size h = tt
       all_given_holes (size_and t ts) h = (given_holes t h.0, all_given_holes ts h.1)
 
-    mutual
-      unfolding with_types all_with_types Each Each_all
+    module _ (Q : ℕ → Dim → Type 0) where
+      mutual
+        unfolding with_types all_with_types Each Each_all
 
-      none_given : (t : Size) (j : ℕ) → Each (λ i d. ⊥) j (with_types Θ t) → Each (λ i d. ⊥) j t
-      none_given (Hole v) j h = tt
-      none_given (Open m v u) j h = tt
-      none_given (Level d t) j h = absurd h.0
-      none_given (Built k ts) j h = all_none_given ts j h
-      none_given (Fun k p r) j h = (none_given p (suc j) h.0, none_given r (suc j) h.1)
+        less_given : (t : Size) (j : ℕ) → Each Q j (with_types Θ t) → Each Q j t
+        less_given (Hole v) j h = tt
+        less_given (Open m v u) j h = tt
+        less_given (Level d t) j h = (h.0, less_given t j h.1)
+        less_given (Built k ts) j h = all_less_given ts j h
+        less_given (Fun k p r) j h = (less_given p (suc j) h.0, less_given r (suc j) h.1)
 
-      all_none_given : (ts : Sizes) (j : ℕ) → Each_all (λ i d. ⊥) j (all_with_types Θ ts) → Each_all (λ i d. ⊥) j ts
-      all_none_given no_size j h = tt
-      all_none_given (size_and t ts) j h = (none_given t j h.0, all_none_given ts j h.1)
+        all_less_given : (ts : Sizes) (j : ℕ) → Each_all Q j (all_with_types Θ ts) → Each_all Q j ts
+        all_less_given no_size j h = tt
+        all_less_given (size_and t ts) j h = (less_given t j h.0, all_less_given ts j h.1)
 
     no_number : (p : Size) → is_i64_size (with_types Θ p) ≡ false → is_i64_size p ≡ false
     unfolding with_types all_with_types
@@ -495,7 +506,7 @@ module _ (n : ℕ) (types : Variable → Ty) where
       given_formed (Open m v u) h f = f
       given_formed (Level d t) h f = given_formed t h f
       given_formed (Built k ts) h f = (f.0, all_given_formed ts h f.1)
-      given_formed (Fun k p r) h f = (given_formed p h.0 f.0, given_formed r h.1 f.1, given_each (Of_positions (λ i. i < k)) (λ j x i. tt) p 1 h.0 f.2, λ e. given_each (Of_positions (λ i. i ≡ k → ⊥)) (λ j x i. tt) r 1 h.1 (f.3 (no_number p e)), λ e. f.4 (none_given p 0 e))
+      given_formed (Fun k p r) h f = (given_formed p h.0 f.0, given_formed r h.1 f.1, given_each (Of_positions (λ i. i < k)) (λ j x i. tt) p 1 h.0 f.2, (λ e. given_each (Of_positions (λ i. i ≡ k → ⊥)) (λ j x i. tt) r 1 h.1 (f.3 (no_number p e))), (λ i l e. f.4 i l (less_given (Of_positions (λ m. m ≡ i → ⊥)) p 1 e)))
 
       all_given_formed : (ts : Sizes) → Each_holes Nice_there ts → All_formed ts → All_formed (all_with_types Θ ts)
       all_given_formed no_size h f = tt

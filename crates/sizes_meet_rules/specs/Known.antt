@@ -32,19 +32,15 @@ abbrev pub is_i64_size : Size → Bool
 is_i64_size (Built h no_size) = head_i64 h
 is_i64_size t = false
 
--- no size stands in it
-abbrev pub No_sizes : Size → Type 0
-No_sizes t = Each (λ j d. ⊥) 0 t
-
 -- nothing is open; what a function takes names the sizes that its caller chooses, and no others of its frame; what it gives names
--- the argument only where that is of type i64; where no size stands in what it takes its caller chooses none
+-- the argument only where that is of type i64; each size that its caller chooses stands in what it takes
 unfoldable mutual
   pub Formed : Size → Type 0
   Formed (Hole v) = Unit {0}
   Formed (Open n v u) = ⊥
   Formed (Level d t) = Formed t
   Formed (Built h ts) = Is_made h × All_formed ts
-  Formed (Fun k p r) = Formed p × Formed r × Each (Of_positions (λ i. i < k)) 1 p × (is_i64_size p ≡ false → Each (Of_positions (λ i. i ≡ k → ⊥)) 1 r) × (No_sizes p → k ≡ 0)
+  Formed (Fun k p r) = Formed p × Formed r × Each (Of_positions (λ i. i < k)) 1 p × (is_i64_size p ≡ false → Each (Of_positions (λ i. i ≡ k → ⊥)) 1 r) × ((i : ℕ) → i < k → Each (Of_positions (λ m. m ≡ i → ⊥)) 1 p → ⊥)
 
   pub All_formed : Sizes → Type 0
   All_formed no_size = Unit {0}

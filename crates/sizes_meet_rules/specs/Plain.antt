@@ -1,9 +1,8 @@
 -- The terms of which the law speaks: names, operations, functions of data, lets of data and of functions, branches, loops and
 -- applications of names and primitives to arguments of data; a primitive is applied to all that it takes, and one of them may be a
--- function whose parameters have no arrays, and which gives data, or the first of them a lambda that takes and gives data, or
--- the name of a function of data that gives data without arrays; where a name is applied to fewer, those that are left have
--- none. Programs are of functions, numbers and other data whose sizes are told. A node that binds a name is the home of that
--- name.
+-- function whose parameters have no arrays, and which gives data, or the first of them a lambda or the name of a function that
+-- takes and gives data; where a name is applied to fewer, those that are left have none. Programs are of functions, numbers and
+-- other data whose sizes are told. A node that binds a name is the home of that name.
 use Rattle.std.specs.Prelude.{◌≡◌, ◌⊎◌, ℕ, ◌+◌, Bool, true, false, List, [], ◌∷◌, None}
 use Rattle.fut_scalar.specs.declared.place.BindId.{BindId}
 use Rattle.fut_scalar.specs.declared.scalar.ScalarType.{ScalarType}
@@ -219,9 +218,9 @@ module _ (types : Sub) (home : ℕ → ℕ) (K : Kinds) (places : Kind) where
   Flat_function (Made head.Fun (more p (more r none))) = Flat_type p × (HasKind K places r ⊎ Flat_function r)
   Flat_function t = ⊥
 
-  -- a function of data, which gives data without arrays
+  -- a function of data, which gives data
   abbrev pub Data_function : Ty → Type 0
-  Data_function (Made head.Fun (more p (more r none))) = HasKind K places p × (Flat_type r ⊎ Data_function r)
+  Data_function (Made head.Fun (more p (more r none))) = HasKind K places p × (HasKind K places r ⊎ Data_function r)
   Data_function t = ⊥
 
   -- a name or a primitive of such a type
@@ -243,9 +242,8 @@ module _ (types : Sub) (home : ℕ → ℕ) (K : Kinds) (places : Kind) where
       Plain_term (Strict o mark ts) lo = Plain_operation N o (types lo) ts × Plain_terms ts (lo + own_numbers o)
       Plain_term (Lambda (pattern_and p ps) e) lo = Plain_patterns (pattern_and p ps) (1 + lo) × Plain_term e (1 + lo + all_pattern_numbers (pattern_and p ps))
       -- a function by its name, or a primitive, applied to arguments of data; a primitive may take one function of parameters without
-      -- arrays, which gives data, or as its first argument a lambda of data, which gives data, or a name of a function of data
-      -- that gives data without arrays. The result is data; a function by its name may have arguments left, in which are no
-      -- arrays
+      -- arrays, which gives data, or as its first argument a lambda or a name of data, which gives data. The result is data; a
+      -- function by its name may have arguments left, in which are no arrays
       Plain_term (Apply f e) lo = (HasKind K places (types lo) ⊎ (Flat_function (types lo) × Is_call f)) × (((HasKind K places (types (1 + lo + numbers f)) × Plain_spine false f (1 + lo)) ⊎ (((false ≡ false) × Flat_function (types (1 + lo + numbers f)) × Plain_spine true f (1 + lo)) ⊎ ((false ≡ false) × (Gives_data e (1 + lo + numbers f) ⊎ Used_function e (1 + lo + numbers f)) × Is_primitive f))) × Plain_term e (1 + lo + numbers f))
       Plain_term (Let b v e) lo = Plain_let N b.is_function b.sizes b.parameters b.pattern v (1 + lo) × (composition b e ≡ None)
           × (HasKind K places (types (1 + lo + pattern_numbers b.pattern)) ⊎ (Is_lambda v × Is_bound b.pattern)) × Plain_term v (1 + lo + pattern_numbers b.pattern) × Plain_term e (1 + lo + pattern_numbers b.pattern + numbers v)
