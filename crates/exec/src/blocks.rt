@@ -1,6 +1,6 @@
 // Runs of blocks, steps and loops.
-ghost use Rattle.std.specs.Prelude.{◌≡◌};
-ghost use Rattle.core_ir.specs.Plain.{action_of, binding_of, body_of, bundle_form, source_form};
+ghost use Rattle.std.specs.Prelude.{◌≡◌, map};
+ghost use Rattle.core_ir.specs.Plain.{For_in, Map, Of_two, Reduce, action_of, binding_of, body_of, bundle_form, group, source_form};
 ghost use Rattle.core_code.specs.Registers.{state};
 ghost use Rattle.core_code.specs.Runs.{Act_runs, Body_runs, For_runs, Step_runs, Test_runs, Turn_runs, While_runs};
 ghost use Rattle.core_ir.specs.declared.block.Block.{out-Block};
@@ -13,7 +13,7 @@ use core_code::{
 };
 use core_ir::{Atom, Block, Op, Over, Rows, Step, Var};
 use core_steps::{
-    bundle_count, glue, push_bundle, push_source, run_making, run_view, source_count,
+    bundle_count, glue, glue_none, push_bundle, push_source, run_making, run_view, source_count,
 };
 use fut_scalar::{FailKind, IntType, Place, Report, ScalarType};
 
@@ -123,57 +123,110 @@ fn run_apply(
     match op {
         Op::View(view) => run_view(*view, place, table, stack, arrays),
         Op::Make(making) => run_making(*making, place, table, stack, arrays),
+        Op::Map {
+            over,
+            sizes,
+            params,
+            body,
+        } => run_map(
+            body, params, *over, sizes, place, turns, table, stack, arrays,
+        ),
+        _ => run_folding(op, place, turns, table, stack, arrays),
+    }
+}
+
+/// Runs a loop over rows or a reduction, and puts the words that it gives on the stack.
+#[tactic(auto, using(crate::proofs::Acts::act_rules))]
+#[cycle(blocks)]
+fn run_folding(
+    op: &Op,
+    place: Place,
+    turns: u64,
+    table: &mut [u64],
+    stack: &mut Vec<u64>,
+    arrays: &mut Arrays,
+) -> Result<(), Stop>
+    ensures { Act_runs turns (action_of op.now place) (state arrays.old table.old stack.old.items) (state arrays.new table.new stack.new.items) result }
+{
+    match op {
         Op::ForIn {
             params,
             first,
             row,
             rows,
             body,
-        } => {
-            let mark = stack.len();
-            push_all(first, table, stack)?;
-            let count = bundle_count(*rows, place, table, arrays)?;
-            run_rows(
-                body, params, row, *rows, count, mark, turns, table, stack, arrays,
-            )
-        }
+        } => run_fold(
+            body, params, row, first, *rows, place, turns, table, stack, arrays,
+        ),
         Op::Reduce {
             neutral,
             rows,
             operator,
-        } => {
-            let mark = stack.len();
-            push_all(neutral, table, stack)?;
-            let count = bundle_count(*rows, place, table, arrays)?;
-            run_rows(
-                operator.body,
-                operator.left,
-                operator.right,
-                *rows,
-                count,
-                mark,
-                turns,
-                table,
-                stack,
-                arrays,
-            )
-        }
-        Op::Map {
-            over,
-            sizes: _,
-            params,
-            body,
-        } => {
-            let mark = stack.len();
-            let count = source_count(*over, place, table, arrays)?;
-            if count == 0 {
-                return Err(Stop::Memory);
-            }
-            run_each(body, params, *over, count, turns, table, stack, arrays)?;
-            glue(results_of(body), count, mark, place, stack, arrays)
-        }
+        } => run_fold(
+            operator.body,
+            operator.left,
+            operator.right,
+            neutral,
+            *rows,
+            place,
+            turns,
+            table,
+            stack,
+            arrays,
+        ),
         _ => Err(Stop::Memory),
     }
+}
+
+/// Takes a turn for each row of a bundle, from first words of the parameters on. A reduction in order is the same.
+#[tactic(auto, using(crate::proofs::Acts::act_rules))]
+#[cycle(blocks)]
+fn run_fold(
+    body: &Block,
+    params: &[Var],
+    row: &[Var],
+    first: &[Atom],
+    rows: Rows,
+    place: Place,
+    turns: u64,
+    table: &mut [u64],
+    stack: &mut Vec<u64>,
+    arrays: &mut Arrays,
+) -> Result<(), Stop>
+    ensures folded { Act_runs turns (For_in place params.now first.now row.now (bundle_form rows.entry) (body_of body.now)) (state arrays.old table.old stack.old.items) (state arrays.new table.new stack.new.items) result }
+    ensures reduced { Act_runs turns (Reduce place first.now (bundle_form rows.entry) (Of_two params.now row.now (body_of body.now))) (state arrays.old table.old stack.old.items) (state arrays.new table.new stack.new.items) result }
+{
+    let mark = stack.len();
+    push_all(first, table, stack)?;
+    let count = bundle_count(rows, place, table, arrays)?;
+    run_rows(
+        body, params, row, rows, count, mark, turns, table, stack, arrays,
+    )
+}
+
+/// Applies a block to each row of a source, and puts the arrays of all results on the stack.
+#[tactic(auto, using(crate::proofs::Acts::act_rules))]
+#[cycle(blocks)]
+fn run_map(
+    body: &Block,
+    params: &[Var],
+    over: Over,
+    sizes: &[&[Atom]],
+    place: Place,
+    turns: u64,
+    table: &mut [u64],
+    stack: &mut Vec<u64>,
+    arrays: &mut Arrays,
+) -> Result<(), Stop>
+    ensures { Act_runs turns (Map place (source_form over.entry) (map group sizes.now) params.now (body_of body.now)) (state arrays.old table.old stack.old.items) (state arrays.new table.new stack.new.items) result }
+{
+    let mark = stack.len();
+    let count = source_count(over, place, table, arrays)?;
+    if count == 0 {
+        return glue_none(sizes, place, table, stack, arrays);
+    }
+    run_each(body, params, over, count, turns, table, stack, arrays)?;
+    glue(results_of(body), count, mark, place, stack, arrays)
 }
 
 /// What a block comes to.
