@@ -21,13 +21,12 @@ use Rattle.fut_sizes.specs.Sizing.{finished}
 use Rattle.fut_sizes.specs.Steps.{State, Done, at_node}
 use Rattle.fut_sizes.specs.Suiting.{Each, Scoped, Free_of, Suits}
 use Rattle.sizes_meet_rules.specs.Known.{Says, Judged, Elsewhere}
-use Rattle.sizes_meet_rules.specs.Plain.{Flat_function, Is_call}
+use Rattle.sizes_meet_rules.specs.Plain.{Is_call}
 use Rattle.sizes_meet_rules.proofs.Applying.{read_twice}
-use Rattle.sizes_meet_rules.proofs.Chains.{Gives, Given, Waiting_given, Named_given, Widths, arguments, Takes_all, widened, widened_widths, here, wants, laters, last_opened, last_size, last_goes, last_found, Matched_ran, last_slots, arrows_of, argument_by, All_plain, Reads, Kept, met_all}
-use Rattle.sizes_meet_rules.proofs.Fitting.{Gives_type, function_gives}
+use Rattle.sizes_meet_rules.proofs.Chains.{Given, Waiting_given, Named_given, Widths, arguments, Takes_all, widened, widened_widths, here, wants, laters, last_opened, last_size, last_goes, last_found, Matched_ran, last_slots, arrows_of, argument_by, All_plain, Reads, Kept, met_all}
 use Rattle.sizes_meet_rules.proofs.Frames.{Okay, none_meant, by_itself, Frames, not_filled, Framed, Settled_parameters, quantified_as}
 use Rattle.sizes_meet_rules.proofs.Meeting.{each_scoped, at_itself, at_another, With_met, met_settled}
-use Rattle.sizes_meet_rules.proofs.Noting.{gives_settled, within_avoids, Placed, placed_order, Avoids, Within, Right, noting, noting_other, noting_right, right_as, right_first, right_later, both_closed, both_avoid, both_within, both_distinct, laters_avoid, laters_within, laters_distinct, laters_closed, uses_avoid, uses_within, uses_distinct, uses_closed, met_noted_is, ended, Stages, Unnamed, stages}
+use Rattle.sizes_meet_rules.proofs.Noting.{last_settled, within_avoids, Placed, placed_order, Avoids, Within, Right, noting, noting_other, noting_right, right_as, right_first, right_later, both_closed, both_avoid, both_within, both_distinct, laters_avoid, laters_within, laters_distinct, laters_closed, uses_avoid, uses_within, uses_distinct, uses_closed, met_noted_is, ended, Stages, Unnamed, stages}
 use Rattle.sizes_meet_rules.proofs.Reading.{found_settled}
 use Rattle.sizes_meet_rules.proofs.Replacing.{hole_as}
 use Rattle.sizes_meet_rules.proofs.Settling.{Any_variable}
@@ -127,14 +126,6 @@ module _ (N : Names) (types : Sub) (home : ℕ → ℕ) (K : Kinds) (places : Ki
   Nonempty [] = ⊥
   Nonempty (g ∷ gs) = Unit {0}
 
-  last_gives : (lo : ℕ) (gs : List Given) (t : Size) → Takes_all gs t → Gives (last_size lo gs t)
-  last_gives lo [] t h = h
-  last_gives lo (g ∷ gs) (Fun k p r) h = last_gives lo gs r h.1
-  last_gives lo (g ∷ gs) (Hole v) h = absurd h
-  last_gives lo (g ∷ gs) (Open m v u) h = absurd h
-  last_gives lo (g ∷ gs) (Level d t) h = absurd h
-  last_gives lo (g ∷ gs) (Built f ts) h = absurd h
-
   last_closed : (lo : ℕ) (gs : List Given) (t : Size) → Each_hole Any_variable t → Each_hole Any_variable (last_size lo gs t)
   unfolding Each_hole
   last_closed lo [] t h = h
@@ -229,7 +220,7 @@ module _ (N : Names) (types : Sub) (home : ℕ → ℕ) (K : Kinds) (places : Ki
     read_again = read_twice τ (dim_in (last_opened lo gs none_opened t nothing_found)) twice (last_size lo gs t) 0 (last_closed lo gs t any_holes)
 
     none_again : closed (last_goes lo gs true t) τ.maker (read τ read_size) ≡ renamed (unknown_slot τ.maker) (read τ read_size)
-    none_again = ends_alike (last_goes lo gs true t) τ.maker (read τ read_size) (subst (Settled_parameters 0) (sym read_again.0) (gives_settled τ (dim_in (last_opened lo gs none_opened t nothing_found)) (last_size lo gs t) 0 0 (last_gives lo gs t takes)))
+    none_again = ends_alike (last_goes lo gs true t) τ.maker (read τ read_size) (subst (Settled_parameters 0) (sym read_again.0) (last_settled N types τ lo Known_in known_settled Known_in known_settled gs none_opened t nothing_found none_meant no_frames unframed (λ j i l. absurd l) takes meant says.formed any_holes plain_given matched))
 
     abbrev all_laters : List Later
     all_laters = laters lo gs none_opened t nothing_found ++ uses (wants lo gs none_opened t nothing_found)
@@ -264,9 +255,9 @@ module _ (N : Names) (types : Sub) (home : ℕ → ℕ) (K : Kinds) (places : Ki
           ∙ noting_other N types τ all_laters B.nodes x (both_avoid N types τ x (laters lo gs none_opened t nothing_found) (uses (wants lo gs none_opened t nothing_found)) (laters_avoid N types τ lo gs none_opened t nothing_found x (omega (arith, l, a))) v)
 
       stages_here : Unnamed N types τ lo Known_in known_settled gs s → Stages N types τ lo Known_in known_settled gs no_frames t nothing_found s
-      stages_here unnamed = (stages N types τ lo Known_in known_settled Known_in known_settled gs none_opened t nothing_found none_meant no_frames unframed takes meant says.formed any_holes plain_given matched s
+      stages_here unnamed = stages N types τ lo Known_in known_settled Known_in known_settled gs none_opened t nothing_found none_meant no_frames unframed (λ j i l. absurd l) takes meant says.formed any_holes plain_given matched s
           (right_first N types τ (laters lo gs none_opened t nothing_found) (uses (wants lo gs none_opened t nothing_found)) s right_here) (right_later N types τ (laters lo gs none_opened t nothing_found) (uses (wants lo gs none_opened t nothing_found)) s right_here) unnamed
-          (let a = room in let b = head_some in agrees lo (omega arith) (omega (arith, a, b)) ∙ node_here ∙ ap (renamed (unknown_slot τ.maker)) read_again.0)).0
+          (let a = room in let b = head_some in agrees lo (omega arith) (omega (arith, a, b)) ∙ node_here ∙ ap (renamed (unknown_slot τ.maker)) read_again.0)
 
     nodes_here : (s : ℕ → Size) → ((x : ℕ) → lo ≤ x → x < hi → s x ≡ u.state.nodes x) → Unnamed N types τ lo Known_in known_settled gs s × Inner_nodes N types home K places data_places In Vars scope lo first hi E from_lo A B τ slots s room gs st A parts
     nodes_here s agrees = nodes_of N types home K places data_places In Vars scope lo first hi E from_lo A B τ slots s room gs none_opened t nothing_found st A first takes placed parts (λ x l l' o. later.nodes x o) (λ x l l' v. behind_all s agrees x l l' v)
@@ -330,23 +321,16 @@ module _ (N : Names) (types : Sub) (home : ℕ → ℕ) (K : Kinds) (places : Ki
     sized_some (g ∷ gs) st A (inr (inl h)) s = tt
     sized_some (g ∷ gs) st A (inr (inr h)) s = tt
 
-    module _ (f : FlatTerm) (lo : ℕ) (st : State) (d : Done Part) (S : Spine N types home K places data_places false In Vars scope f lo st d) (E : Elsewhere N types home lo (lo + numbers f) In) (kind : HasKind K places (types lo) ⊎ (Flat_function types home K places (types lo) × (Primitive_head N types home K In Vars scope S.term S.size S.regular S.type → ⊥))) (some : Nonempty S.given) (u : Done Size) (q : finished N types lo d.result d.state ≡ Ok u) where
+    module _ (f : FlatTerm) (lo : ℕ) (st : State) (d : Done Part) (S : Spine N types home K places data_places false In Vars scope f lo st d) (E : Elsewhere N types home lo (lo + numbers f) In) (kind : HasKind K places (types lo) ⊎ (Primitive_head N types home K In Vars scope S.term S.size S.regular S.type → ⊥)) (some : Nonempty S.given) (u : Done Size) (q : finished N types lo d.result d.state ≡ Ok u) where
       abbrev wide : List Given
       wide = widened S.given S.size
-
-      gives_kind : Gives_type K (types lo)
-      gives_kind = by_kind kind
-        where
-          by_kind : HasKind K places (types lo) ⊎ (Flat_function types home K places (types lo) × (Primitive_head N types home K In Vars scope S.term S.size S.regular S.type → ⊥)) → Gives_type K (types lo)
-          by_kind (inl k) = function_gives types home K places data_places (types lo) (inl k)
-          by_kind (inr k) = function_gives types home K places data_places (types lo) (inr k.0)
 
       data_kind : Primitive_head N types home K In Vars scope S.term S.size S.regular S.type → 1 ≤ rank K (types lo)
       data_kind H = by_kind kind
         where
-          by_kind : HasKind K places (types lo) ⊎ (Flat_function types home K places (types lo) × (Primitive_head N types home K In Vars scope S.term S.size S.regular S.type → ⊥)) → 1 ≤ rank K (types lo)
+          by_kind : HasKind K places (types lo) ⊎ (Primitive_head N types home K In Vars scope S.term S.size S.regular S.type → ⊥) → 1 ≤ rank K (types lo)
           by_kind (inl k) = omega (arith, data_places, k)
-          by_kind (inr k) = absurd (k.1 H)
+          by_kind (inr k) = absurd (k H)
 
       abbrev end_here : ℕ
       end_here = lo + numbers f
@@ -403,7 +387,7 @@ module _ (N : Names) (types : Sub) (home : ℕ → ℕ) (K : Kinds) (places : Ki
           R : Resolved N types home K In Vars scope S.term S.size S.regular S.type (With_met In (lo + length (arguments wide) + numbers S.term) end_here) (λ x i. inl i) (settled_here wide refl (λ x. refl) refl (λ p. p) (wide_some S.given S.size some)) lo wide d.state u (λ s. s ≡ d.state)
           R = resolved N types home K In Vars scope S.term S.size S.regular S.type (With_met In (lo + length (arguments wide) + numbers S.term) end_here) (λ x i. inl i) (settled_here wide refl (λ x. refl) refl (λ p. p) (wide_some S.given S.size some)) lo wide d.state u (types lo)
               (arrows_there wide refl (λ x. refl) refl (λ p. p) (wide_some S.given S.size some)) (widened_widths S.given S.size) (ran_there wide refl (λ x. refl) refl (λ p. p) (wide_some S.given S.size some))
-              gives_kind data_kind
+              data_kind
               (all_fit N types home K places data_places In Vars scope lo (lo + length (arguments wide) + numbers S.term) end_here E (omega arith) wide st d.state (lo + length (arguments wide) + numbers S.term) (omega arith) (placed_there wide refl (λ x. refl) refl (λ p. p) (wide_some S.given S.size some)) wide_h) S.head
 
       -- and a lambda
@@ -673,6 +657,6 @@ module _ (N : Names) (types : Sub) (home : ℕ → ℕ) (K : Kinds) (places : Ki
       call_head h [] c = c
       call_head h (g ∷ gs) c = call_head (Apply h g.term) gs c
 
-      kind : HasKind K places (types lo) ⊎ (Flat_function types home K places (types lo) × Is_call f) → HasKind K places (types lo) ⊎ (Flat_function types home K places (types lo) × (Primitive_head N types home K In Vars scope S.term S.size S.regular S.type → ⊥))
+      kind : HasKind K places (types lo) ⊎ Is_call f → HasKind K places (types lo) ⊎ (Primitive_head N types home K In Vars scope S.term S.size S.regular S.type → ⊥)
       kind (inl k) = inl k
-      kind (inr k) = inr (k.0, λ H. subst Is_call H.term_is (call_head S.term S.given (subst Is_call S.is k.1)))
+      kind (inr k) = inr (λ H. subst Is_call H.term_is (call_head S.term S.given (subst Is_call S.is k)))

@@ -1,7 +1,6 @@
 -- What the pass does where a function is applied to arguments of data: each has its parameter, and all are matched at the end.
-use Rattle.sizes_meet_rules.proofs.Flat_types.{flat}
 use Rattle.sizes_meet_rules.proofs.Forming.{is_i64_ty, number_typed}
-use Rattle.std.proofs.Common.{◌≡◌, ℕ, zero, suc, ◌+◌, ◌<◌, ◌≤◌, List, [], ◌∷◌, ◌++◌, Bool, true, false, cond, nat_eq, Option, Some, None, Ok, refl, sym, ap, ◌∙◌, subst, arith, ◌⊎◌, inl, inr}
+use Rattle.std.proofs.Common.{◌≡◌, ℕ, suc, ◌+◌, ◌<◌, ◌≤◌, List, [], ◌∷◌, ◌++◌, Bool, true, false, cond, nat_eq, Option, Some, None, Ok, refl, sym, ap, ◌∙◌, subst, arith, ◌⊎◌, inl, inr}
 use Rattle.std.specs.Prelude.{nat_lt, length}
 use Rattle.std.proofs.lemmas.Bool.{lt-ltb, le-ltb, ne_eqb}
 use Rattle.std.proofs.lemmas.List.{append-nil, append_assoc}
@@ -115,15 +114,9 @@ function_opened φ p t f = alone_replaced Is_settled (dim_in φ) (λ j x. refl) 
 pub function_read : (τ : Found) (φ : Opened) (p t : Size) → Function_taken p t → read τ (in_opened φ p) ≡ t
 function_read τ φ p t f = ap (read τ) (function_opened φ p t f) ∙ read_settled τ p 0 (alone_scoped Is_settled p 0 f.alone) f.closed ∙ f.same
 
--- data, or a function whose parameters have no arrays
-abbrev pub Gives : Size → Type 0
-Gives (Fun zero p r) = (p ≡ flat (erased p)) × Gives r
-Gives (Fun (suc k) p r) = ⊥
-Gives t = Data t
-
--- a function of that many arguments, of these types, which gives data or such a function
+-- a function of that many arguments, of these types
 abbrev pub Takes_all : List Given → Size → Type 0
-Takes_all [] t = Gives t
+Takes_all [] t = Unit {0}
 Takes_all (g ∷ gs) (Fun k p r) = Taken_by p g.size × Takes_all gs r
 Takes_all (g ∷ gs) t = ⊥
 
@@ -478,7 +471,7 @@ module _ (n : ℕ) where
     -- ---- what is read once all are matched
 
     abbrev pub Plain_given : Given → Type 0
-    Plain_given g = Formed g.size × Each (Scoped P) 0 g.size
+    Plain_given g = Formed g.size × Each (Scoped P) 0 g.size × ((d : Free) → g.value ≡ Some d → is_slot d ≡ false)
 
     abbrev pub All_plain : List Given → Type 0
     All_plain [] = Unit {0}

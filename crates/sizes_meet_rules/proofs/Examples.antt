@@ -472,7 +472,7 @@ firsts_plain = (
         headed_none first_types first_homes K kind.Data N map_first tt 6,
         (
           (refl, tt, omega arith, tt),
-          (inl (omega arith), (inl (omega arith, (inr (inl (refl, ((tt, tt), inl (omega arith)), tt)), (inr (((tt, tt), inl (omega arith)), tt), (inl (omega arith, (refl, refl)), ((scalar.Int int.I64, refl), tt))))), (inl (omega arith), (inl (omega arith, tt), inl refl)))),
+          (inl (omega arith), (inl (omega arith, (inr (inl (refl, ((tt, tt), inl (omega arith)), tt)), (inr tt, (inl (omega arith, (refl, refl)), ((scalar.Int int.I64, refl), tt))))), (inl (omega arith), (inl (omega arith, tt), inl refl)))),
         ),
       ),
     ),

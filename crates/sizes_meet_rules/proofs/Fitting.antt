@@ -5,7 +5,7 @@ use Rattle.std.specs.Prelude.{nat_eq, min}
 use Rattle.fut_scalar.specs.declared.scalar.ScalarType.{ScalarType}
 use Rattle.fut_types.specs.declared.Head.TheVariants as head
 use Rattle.fut_types.specs.declared.Kind.{Kind}
-use Rattle.fut_types.specs.Types.{Ty, Var, Made, more, none, fun_ty, Sub, Kinds, HasKind, rank, least, level}
+use Rattle.fut_types.specs.Types.{Ty, Made, more, none, fun_ty, Sub, Kinds, HasKind, rank, least, level}
 use Rattle.sized_types.specs.Sizes.{Free, Unknown, Slot, Dim, At, Bound, Variable, is_variable, Size, Hole, Open, Level, Built, Fun, Sizes, no_size, size_and, erased, all_erased, is_free, replaced, all_replaced, renaming, renamed, has, some_has}
 use Rattle.sized_types.specs.Standing.{has_hole, some_hole}
 use Rattle.fut_sizes.specs.Agreeing.{Answer, Mismatch, Irregular}
@@ -18,7 +18,7 @@ use Rattle.fut_sizes.specs.Suiting.{Each, Each_all, Scoped, Of_positions, Data, 
 use Rattle.sizes_meet_rules.specs.Known.{Is_made, Formed, All_formed}
 use Rattle.sizes_meet_rules.specs.Plain.{Flat_type, Flat_function}
 use Rattle.sizes_meet_rules.proofs.Applying.{Function_size, function_is, read_settled}
-use Rattle.sizes_meet_rules.proofs.Chains.{Gives, Alone, alone_scoped, alone_at, alone_replaced}
+use Rattle.sizes_meet_rules.proofs.Chains.{Alone, alone_scoped, alone_at, alone_replaced}
 use Rattle.sizes_meet_rules.proofs.Filling.{function_holes, Is_inferred, Nice, Taken_at, Taking, Stays, stays_taken, Agrees, agrees_before, other_variable, typed_taking, now_taken, nothing_filled}
 use Rattle.sizes_meet_rules.proofs.Flat_types.{flat, flats, flat_is, flat_each, flat_data}
 use Rattle.sizes_meet_rules.proofs.Forming.{data_of}
@@ -226,53 +226,10 @@ taken_compared b w at (Level e x) t σ d = refl
 taken_compared b w at (Built h xs) t σ d = refl
 taken_compared b w at (Fun k p r) t σ d = absurd d
 
--- the type of what is given: of data, or of a function whose parameters have no arrays
-abbrev pub Gives_type : Kinds → Ty → Type 0
-Gives_type K (Made head.Fun (more p (more r none))) = Flat_type p × Gives_type K r
-Gives_type K u = 1 ≤ rank K u
-
-no_data_arrow : (K : Kinds) (a b : Ty) → 1 ≤ rank K (fun_ty a b) → ⊥
-unfolding rank least
-no_data_arrow K a b h = let z : 1 ≤ min 0 (min (rank K a) (min (rank K b) 4)) = h in omega (arith, z)
-
-pub data_gives : (K : Kinds) (u : Ty) → 1 ≤ rank K u → Gives_type K u
-data_gives K (Var v) h = h
-data_gives K (Made (head.Scalar s) ts) h = h
-data_gives K (Made head.Array ts) h = h
-data_gives K (Made head.Tuple ts) h = h
-data_gives K (Made (head.Record n) ts) h = h
-data_gives K (Made (head.Rigid n k) ts) h = h
-data_gives K (Made (head.Abstract n k) ts) h = h
-data_gives K (Made head.Fun none) h = h
-data_gives K (Made head.Fun (more p none)) h = h
-data_gives K (Made head.Fun (more p (more r none))) h = absurd (no_data_arrow K p r h)
-data_gives K (Made head.Fun (more p (more r (more t ts)))) h = h
-
--- a function whose parameters have no arrays chooses no sizes
-pub gives : (K : Kinds) (t : Size) → Formed t → Gives_type K (erased t) → Gives t
-unfolding Formed erased Data
-gives K (Hole v) f h = tt
-gives K (Open m v u) f h = absurd f
-gives K (Level d t) f h = data_of K (Level d t) f h
-gives K (Built (head.Scalar s) ts) f h = data_of K (Built (head.Scalar s) ts) f h
-gives K (Built head.Array ts) f h = absurd f.0
-gives K (Built head.Tuple ts) f h = data_of K (Built head.Tuple ts) f h
-gives K (Built (head.Record n) ts) f h = data_of K (Built (head.Record n) ts) f h
-gives K (Built head.Fun ts) f h = absurd f.0
-gives K (Built (head.Rigid n k) ts) f h = absurd f.0
-gives K (Built (head.Abstract n k) ts) f h = data_of K (Built (head.Abstract n k) ts) f h
-gives K (Fun zero p r) f h = (flat_is p f.0 h.0, gives K r f.1 h.1)
-gives K (Fun (suc k) p r) f h = f.4 0 (omega arith) (subst (Each (Of_positions (λ m. m ≡ 0 → ⊥)) 1) (sym (flat_is p f.0 h.0)) (flat_each (Of_positions (λ m. m ≡ 0 → ⊥)) 1 (erased p)))
-
 module _ (types : Sub) (home : ℕ → ℕ) (K : Kinds) (places : Kind) (data_places : 1 ≤ level places) where
   no_data_function : (a b : Ty) → HasKind K places (fun_ty a b) → ⊥
   unfolding rank least
   no_data_function a b h = let z : level places ≤ min 0 (min (rank K a) (min (rank K b) 4)) = h in omega (arith, z, data_places)
-
-  pub function_gives : (u : Ty) → HasKind K places u ⊎ Flat_function types home K places u → Gives_type K u
-  function_gives u (inl h) = data_gives K u (omega (arith, data_places, h))
-  function_gives (Made head.Fun (more p (more r none))) (inr h) = (h.0, function_gives r h.1)
-  function_gives u (inr h) = absurd h
 
   pub plain_arrows : (P : Free → Type 0) (t : Size) → Formed t → HasKind K places (erased t) ⊎ Flat_function types home K places (erased t) → Plain_arrows P t
   unfolding Formed erased

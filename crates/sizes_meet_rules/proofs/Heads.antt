@@ -22,7 +22,6 @@ use Rattle.fut_sizes.specs.Steps.{State, Done}
 use Rattle.fut_sizes.specs.Suiting.{Free_of, suits_same}
 use Rattle.sizes_meet_rules.specs.Known.{Says, Known_name, Judged}
 use Rattle.sizes_meet_rules.proofs.Chains.{Given, Waiting_given, Named_given, last_slots, here, arguments, arrows_of, Takes_all, Has_arrows, Widths, takes_arrows, All_kinds, data_kinds as kinds_of_data, last_found, no_function_met, Steps_ran, Matched_ran, steps_ran, data_ran}
-use Rattle.sizes_meet_rules.proofs.Fitting.{Gives_type, data_gives}
 use Rattle.sizes_meet_rules.proofs.Filling.{data_holes, lambda_holes, Taken_at, Agrees, stays_taken, Arrows, none_taken, Chain_as, chain_as}
 use Rattle.sizes_meet_rules.proofs.Alike.{Behind_data, Given_ran, given_ran}
 use Rattle.sizes_meet_rules.proofs.Lambdas.{wanted_of, found_behind, Wants_formed, Lambda_result, All_data_given, One_given, given_data, one_kinds, Kinds_taken, data_kinds, kinds_take, One_lambda, Lambda_met, lambda_ran, One_wide, wide_wants, wide_ran}
@@ -81,8 +80,8 @@ module _ (N : Names) (types : Sub) (home : ℕ → ℕ) (K : Kinds) where
         abbrev Stays_there : State → Type 0
         Stays_there s = s ≡ st
 
-        named_resolved : Gives_type K result → All_data_given P Vars K types gs → Named_head → Resolved Stays_there
-        named_resolved result_given D H = record {
+        named_resolved : All_data_given P Vars K types gs → Named_head → Resolved Stays_there
+        named_resolved D H = record {
           size = H.name.size;
           says = says_more In P Vars H.name.size wide H.name.says;
           typed = typed;
@@ -96,7 +95,7 @@ module _ (N : Names) (types : Sub) (home : ℕ → ℕ) (K : Kinds) where
             typed = H.name.typed (λ g. H.used)
 
             takes : Takes_all gs H.name.size
-            takes = kinds_take P Vars K types gs H.name.size result H.name.says.formed (typed ∙ arrows) result_given (data_kinds P Vars K types gs H.name.size D)
+            takes = kinds_take P Vars K types gs H.name.size result H.name.says.formed (typed ∙ arrows) (data_kinds P Vars K types gs H.name.size D)
 
             has : Has_arrows gs H.name.size
             has = takes_arrows gs H.name.size takes (subst (Widths gs) H.whole_is widths)
@@ -139,7 +138,7 @@ module _ (N : Names) (types : Sub) (home : ℕ → ℕ) (K : Kinds) where
                 size = with_types G.types_now prim_there;
                 says = says;
                 typed = typed;
-                takes = kinds_take P Vars K types gs (with_types G.types_now prim_there) result says.formed (typed ∙ arrows) (data_gives K result result_data) (kinds G.types_now G.agrees);
+                takes = kinds_take P Vars K types gs (with_types G.types_now prim_there) result says.formed (typed ∙ arrows) (kinds G.types_now G.agrees);
                 ran = G.ran;
                 ends = subst Ends (sym G.after_is) ends;
                 rule = λ m s G' J e. subst (λ t. Sized N types s home t m G') (sym H.term_is) (subst (Filled_use (λ v. true) prim_there) (sym e) (record { types = G.types_now; data_types = G.is_data; closed = G.closed; others = λ v z. absurd (let y : true ≡ false = z in cc); used = inl suits_same }));
@@ -212,9 +211,9 @@ module _ (N : Names) (types : Sub) (home : ℕ → ℕ) (K : Kinds) where
               let A = prim_lambda H.node H.primitive type H.given H.typed P settled Vars K H.kinds types gs result result_data arrows Went st after n D in
               lambda_given A.0 (steps A.0 (one_kinds P Vars K types Went st after gs D)) Went after A.1
 
-        pub resolved : Gives_type K result → (Primitive_head → 1 ≤ rank K result) → All_data_given P Vars K types gs → Head → Resolved Stays_there
-        resolved gives_it is_data D (inl H) = named_resolved gives_it D H
-        resolved gives_it is_data D (inr H) = primitive_data H (is_data H) D
+        pub resolved : (Primitive_head → 1 ≤ rank K result) → All_data_given P Vars K types gs → Head → Resolved Stays_there
+        resolved is_data D (inl H) = named_resolved D H
+        resolved is_data D (inr H) = primitive_data H (is_data H) D
 
     -- a primitive applied to a name, which is used at the sizes that are wanted of it, and to data
     module _ (P : Free → Type 0) (wide : (d : Free) → In d → P d) (settled : (d : Free) → P d → is_slot d ≡ false) (n : ℕ) (x : Given) (gs : List Given) (st : State) (u : Done Size)

@@ -16,7 +16,7 @@ use Rattle.sizes_meet_rules.proofs.Applying.{Function_size, function_is}
 use Rattle.sizes_meet_rules.proofs.Forming.{data_of}
 use Rattle.sizes_meet_rules.proofs.Chains.{All_kinds, data_kinds as kinds_of_data, arrows_of, Takes_all, Taken_by, Given, Waiting_given, argument_by, here, opened_by, after as found_after, wants as early_wants, last_found, given_wants, alone_scoped, All_data, Has_arrows, one_function, function_step, data_passed, no_function_met, kept_maker, Alone, Function_taken}
 use Rattle.sizes_meet_rules.proofs.Filling.{Data_fit, function_holes, lambda_holes, Is_inferred, Taken_at, Taking, Stays, Agrees}
-use Rattle.sizes_meet_rules.proofs.Fitting.{Gives_type, gives, is_simple, is_wanted, Lambda_says, Function_met, simple_value, met_as, unread_met, each_alone}
+use Rattle.sizes_meet_rules.proofs.Fitting.{is_simple, is_wanted, Lambda_says, Function_met, simple_value, met_as, unread_met, each_alone}
 use Rattle.sizes_meet_rules.proofs.Meeting.{Then_ok, then_ok, Asked, asked, same_ok}
 use Rattle.sizes_meet_rules.proofs.Reading.{Extends}
 use Rattle.sizes_meet_rules.proofs.Replacing.{hole_as}
@@ -110,10 +110,10 @@ module _ (P : Free → Type 0) (Vars : Variable → Type 0) (K : Kinds) (sub : S
   data_kinds (g ∷ gs) (Built h ts) d = tt
 
   -- so they are taken
-  pub kinds_take : (gs : List Given) (t : Size) (u : Ty) → Formed t → erased t ≡ arrows_of sub gs u → Gives_type K u → Kinds_taken P Vars K sub gs t → Takes_all gs t
+  pub kinds_take : (gs : List Given) (t : Size) (u : Ty) → Formed t → erased t ≡ arrows_of sub gs u → Kinds_taken P Vars K sub gs t → Takes_all gs t
   unfolding Formed
-  kinds_take [] t u f e k1 k = gives K t f (subst (Gives_type K) (sym e) k1)
-  kinds_take (g ∷ gs) t u f e k1 k = subst (Takes_all (g ∷ gs)) (sym W.is_function) (by_kind kinds.0, kinds_take gs W.to u parts.1 W.to_typed k1 kinds.1)
+  kinds_take [] t u f e k = tt
+  kinds_take (g ∷ gs) t u f e k = subst (Takes_all (g ∷ gs)) (sym W.is_function) (by_kind kinds.0, kinds_take gs W.to u parts.1 W.to_typed kinds.1)
     where
       W : Function_size t (sub g.node) (arrows_of sub gs u)
       W = function_is t (sub g.node) (arrows_of sub gs u) f e

@@ -1,22 +1,23 @@
 -- The nodes of an application once all is matched: those of its functions and of its arguments have the sized types that are read.
-use Rattle.std.proofs.Common.{◌≡◌, ◌⊎◌, ℕ, zero, suc, ◌+◌, ◌-◌, ◌<◌, ◌≤◌, List, [], ◌∷◌, ◌++◌, Bool, true, false, Option, Ok, refl, sym, ap, ◌∙◌, subst, arith, inl, inr}
+use Rattle.std.proofs.Common.{◌≡◌, ◌⊎◌, ℕ, zero, suc, ◌+◌, ◌-◌, ◌<◌, ◌≤◌, List, [], ◌∷◌, ◌++◌, Bool, true, false, cond, nat_eq, Option, Some, None, Ok, refl, sym, ap, ◌∙◌, subst, arith, inl, inr, ltb-true}
+use Rattle.std.specs.Prelude.{nat_lt}
 use Rattle.fut_flat.specs.Numbers.{numbers}
 use Rattle.fut_types.specs.Types.{Sub}
 use Rattle.fut_typing.specs.Names.{Names}
-use Rattle.sized_types.specs.Sizes.{Free, Const, Name, Own, Unknown, Slot, Dim, At, Bound, Size, Hole, Open, Level, Built, Fun, Sizes, no_size, size_and, erased, replaced, all_replaced, renamed}
+use Rattle.sized_types.specs.Sizes.{Free, Unknown, Slot, Dim, At, Bound, Size, Hole, Open, Level, Built, Fun, Sizes, no_size, size_and, replaced, all_replaced, renamed}
 use Rattle.fut_sizes.specs.Applications.{Later, Early, with_use, uses}
 use Rattle.fut_sizes.specs.Functions.{is_slot, unknown_slot, quantified, closed}
 use Rattle.fut_sizes.specs.Matching.{Found, found_size, found_dim, read, all_read, Opened, dim_in, in_opened}
-use Rattle.fut_sizes.specs.Rules.{Each_hole}
+use Rattle.fut_sizes.specs.Rules.{Each_hole, Each_holes}
 use Rattle.fut_sizes.specs.Sizing.{all_noted, met_noted}
 use Rattle.fut_sizes.specs.Steps.{State, Done, and_then, note, at_node}
-use Rattle.fut_sizes.specs.Suiting.{Each, Each_all, Scoped, Data, All_data}
-use Rattle.sizes_meet_rules.specs.Known.{Formed}
-use Rattle.sizes_meet_rules.proofs.Applying.{read_settled}
-use Rattle.sizes_meet_rules.proofs.Chains.{Gives, Given, Alone, alone_scoped, alone_at, alone_replaced, Taken_by, taken_typed, Takes_all, frame, framed_as, here, opened_by, after, wants, laters, last_opened, last_size, Plain_given, All_plain, Reads, number_value, Meant, step_in}
-use Rattle.sizes_meet_rules.proofs.Flat_types.{flat_each, flat_read, flat_replaced}
+use Rattle.fut_sizes.specs.Suiting.{Each, Each_all, Scoped, Of_positions, Data, All_data}
+use Rattle.sizes_meet_rules.specs.Known.{is_i64_size, Formed}
+use Rattle.sizes_meet_rules.proofs.Applying.{or_unknown}
+use Rattle.sizes_meet_rules.proofs.Chains.{Given, Alone, alone_at, Taken_by, taken_typed, Takes_all, frame, framed_as, here, opened_by, after, wants, laters, last_opened, last_size, Plain_given, All_plain, Reads, number_value, Meant, step_in}
 use Rattle.sizes_meet_rules.proofs.Frames.{Frames, pushed, Okay, more, filled, Framed, push_framed, closes, Settled_parameters, quantified_as, dim_low, dim_high}
 use Rattle.sizes_meet_rules.proofs.Meeting.{Then_ok, then_ok, same_ok, at_itself, at_another, each_scoped}
+use Rattle.sizes_meet_rules.proofs.Reading.{found_settled}
 use Rattle.sizes_meet_rules.proofs.Replacing.{each_as, hole_replaced}
 use Rattle.sizes_meet_rules.proofs.Settling.{Is_settled, Any_variable, nothing_settled, no_unknown, none_quantified}
 
@@ -111,15 +112,13 @@ module _ (N : Names) (types : Sub) (τ : Found) where
   both_distinct lo edge [] ys d w e a = e
   both_distinct lo edge (l ∷ xs) ys d w e a = (both_avoid l.node xs ys d.0 (a l.node w.0.1), both_distinct lo edge xs ys d.1 w.1 e a)
 
--- no slot stands in what a function takes that is given back
-pub gives_settled : (τ : Found) (g : ℕ → Dim → Dim) (t : Size) (i j : ℕ) → Gives t → Settled_parameters i (read τ (replaced g j t))
-unfolding Settled_parameters Data read replaced
-gives_settled τ g (Hole v) i j h = tt
-gives_settled τ g (Open m v u) i j h = absurd h
-gives_settled τ g (Level d t) i j h = tt
-gives_settled τ g (Built k ts) i j h = tt
-gives_settled τ g (Fun zero p r) i j h = (subst (Each (Scoped Is_settled) (suc i)) (sym (ap (λ x. read τ (replaced g (suc j) x)) h.0 ∙ ap (read τ) (flat_replaced g (suc j) (erased p)) ∙ flat_read τ (erased p))) (flat_each (Scoped Is_settled) (suc i) (erased p)), gives_settled τ g r (suc i) (suc j) h.1)
-gives_settled τ g (Fun (suc k) p r) i j h = absurd h
+settled_parameters : (t : Size) (i : ℕ) → Each (Scoped Is_settled) i t → Settled_parameters i t
+unfolding Settled_parameters Each
+settled_parameters (Hole v) i h = tt
+settled_parameters (Open m v u) i h = tt
+settled_parameters (Level d t) i h = tt
+settled_parameters (Built k ts) i h = tt
+settled_parameters (Fun k p r) i h = (h.0, settled_parameters r (suc i) h.1)
 
 -- arguments stand one behind another
 abbrev pub Placed : List Given → ℕ → ℕ → Type 0
@@ -225,7 +224,7 @@ module _ (N : Names) (types : Sub) (τ : Found) (n : ℕ) where
   use_here true node value size φ p ls s t u v r = (r.0 ∙ v, r.1)
   use_here false node value size φ p ls s t u v r = (u refl, r)
 
-  -- ---- what all parameters read has no slot
+  -- ---- what is read has no slot
 
   abbrev pub close : Free → Free
   close x = unknown_slot τ.maker (found_size τ x)
@@ -233,99 +232,63 @@ module _ (N : Names) (types : Sub) (τ : Found) (n : ℕ) where
   abbrev pub ended : Frames → Frames
   ended δ j i = close (δ j i)
 
-  abbrev Resolved : Frames → ℕ → Dim → Type 0
-  Resolved δ j d = (k i : ℕ) → d ≡ Bound k i → j ≤ k → is_slot (found_size τ (δ (k - j) i)) ≡ false
-
-  shifted : (f : ℕ → Free) (δ : Frames) (j : ℕ) (d : Dim) → Resolved (pushed f δ) j d → Resolved δ (suc j) d
-  unfolding pushed
-  shifted f δ j d h k i e l = subst (λ m. is_slot (found_size τ (pushed f δ m i)) ≡ false) (let z : k - j ≡ suc (k - suc j) = omega (arith, l) in z) (h k i e (omega (arith, l)))
-
   module _ (In : Free → Type 0) (no_slot : (d : Free) → In d → is_slot d ≡ false) where
+    -- what the positions around stand for is found
+    abbrev pub All_found : (ℕ → ℕ → Type 0) → Frames → Type 0
+    All_found ok δ = (j i : ℕ) → ok j i → is_slot (found_size τ (δ j i)) ≡ false
+
     module _ (φ : Opened) (ok : ℕ → ℕ → Type 0) (δ : Frames) (framed : Framed φ ok δ) where
-      one_resolved : (d : Dim) → Okay In ok 0 d → Scoped Is_settled 0 (found_dim τ 0 (dim_in φ 0 d)) → Resolved δ 0 d
-      one_resolved (At x) h s k i e l = absurd (let z : At x ≡ Bound k i = e in cc)
-      one_resolved (Bound k i) (inl w) s m j e l = absurd (omega (arith, w))
-      one_resolved (Bound k i) (inr w) s m j e l = let z : Bound k i ≡ Bound m j = e in let a : k ≡ m = cc in let b : i ≡ j = cc in
-          subst (λ c. is_slot (found_size τ (δ (c - 0) j)) ≡ false) a (subst (λ c. is_slot (found_size τ (δ (k - 0) c)) ≡ false) b (subst (λ v. Scoped Is_settled 0 (found_dim τ 0 v)) (dim_high In no_slot φ ok δ framed 0 k i w.0 w.1) s))
+      module _ (found : All_found ok δ) where
+        one_settled : (j : ℕ) (d : Dim) → Okay In ok j d → Scoped Is_settled j (found_dim τ 0 (dim_in φ j d))
+        one_settled j (At x) h = ap is_slot (found_settled τ x (no_slot x h)) ∙ no_slot x h
+        one_settled j (Bound k i) (inl l) = subst (λ w. Scoped Is_settled j (found_dim τ 0 w)) (sym (dim_low In no_slot φ ok δ framed j k i l)) l
+        one_settled j (Bound k i) (inr w) = subst (λ v. Scoped Is_settled j (found_dim τ 0 v)) (sym (dim_high In no_slot φ ok δ framed j k i w.0 w.1)) (found (k - j) i w.1)
 
-      mutual
-        unfolding Each Each_all Data All_data read all_read replaced all_replaced
+        mutual
+          unfolding Each Each_all Each_hole Each_holes read all_read replaced all_replaced
 
-        resolved : (p : Size) → Data p → Each (Okay In ok) 0 p → Each (Scoped Is_settled) 0 (read τ (replaced (dim_in φ) 0 p)) → Each (λ l d. Resolved δ 0 d) 0 p
-        resolved (Hole v) d h s = tt
-        resolved (Open m v u) d h s = absurd d
-        resolved (Level e p) d h s = (one_resolved e h.0 s.0, resolved p d h.1 s.1)
-        resolved (Built g ps) d h s = all_resolved ps d h s
-        resolved (Fun k p r) d h s = absurd d
+          settles : (t : Size) (j : ℕ) → Each (Okay In ok) j t → Each_hole Any_variable t → Each (Scoped Is_settled) j (read τ (replaced (dim_in φ) j t))
+          settles (Hole v) j h o = tt
+          settles (Open a v u) j h o = absurd o
+          settles (Level e t) j h o = (one_settled j e h.0, settles t j h.1 o)
+          settles (Built g ts) j h o = all_settle ts j h o
+          settles (Fun k p r) j h o = (settles p (suc j) h.0 o.0, settles r (suc j) h.1 o.1)
 
-        all_resolved : (ps : Sizes) → All_data ps → Each_all (Okay In ok) 0 ps → Each_all (Scoped Is_settled) 0 (all_read τ (all_replaced (dim_in φ) 0 ps)) → Each_all (λ l d. Resolved δ 0 d) 0 ps
-        all_resolved no_size d h s = tt
-        all_resolved (size_and p ps) d h s = (resolved p d.0 h.0 s.0, all_resolved ps d.1 h.1 s.1)
+          all_settle : (ts : Sizes) (j : ℕ) → Each_all (Okay In ok) j ts → Each_holes Any_variable ts → Each_all (Scoped Is_settled) j (all_read τ (all_replaced (dim_in φ) j ts))
+          all_settle no_size j h o = tt
+          all_settle (size_and t ts) j h o = (settles t j h.0 o.0, all_settle ts j h.1 o.1)
 
-      one_settled : (j : ℕ) (d : Dim) → Okay In ok j d → Resolved δ j d → Scoped Is_settled j (found_dim τ 0 (dim_in φ j d))
-      one_settled j (At x) h s = by_form x (no_slot x h)
-        where
-          by_form : (x : Free) → is_slot x ≡ false → is_slot (found_size τ x) ≡ false
-          by_form (Slot i) e = absurd (let z : true ≡ false = e in cc)
-          by_form (Const c) e = refl
-          by_form (Name c) e = refl
-          by_form (Own a c) e = refl
-          by_form (Unknown a c) e = refl
-      one_settled j (Bound k i) (inl l) s = subst (λ w. Scoped Is_settled j (found_dim τ 0 w)) (sym (dim_low In no_slot φ ok δ framed j k i l)) l
-      one_settled j (Bound k i) (inr w) s = subst (λ v. Scoped Is_settled j (found_dim τ 0 v)) (sym (dim_high In no_slot φ ok δ framed j k i w.0 w.1)) (s k i refl w.0)
+      -- a position of the nearest frame that is still open stands nowhere in what is settled
+      module _ (p : ℕ) (is_open : is_slot (found_size τ (δ 0 p)) ≡ true) where
+        one_absent : (d : Dim) → Okay In ok 0 d → Scoped Is_settled 0 (found_dim τ 0 (dim_in φ 0 d)) → Of_positions (λ m. m ≡ p → ⊥) 1 d
+        one_absent (At x) h s = tt
+        one_absent (Bound a m) h s = λ z y. by_frame h (let w : a - 0 ≡ 0 = omega (arith, z) in w) y
+          where
+            by_frame : (a < 0) ⊎ ((0 ≤ a) × ok (a - 0) m) → a - 0 ≡ 0 → m ≡ p → ⊥
+            by_frame (inl l) z y = omega (arith, l)
+            by_frame (inr w) z y = let c : false ≡ true = sym (subst (λ b. is_slot (found_size τ (δ b m)) ≡ false) z (subst (λ v. Scoped Is_settled 0 (found_dim τ 0 v)) (dim_high In no_slot φ ok δ framed 0 a m w.0 w.1) s)) ∙ ap (λ b. is_slot (found_size τ (δ 0 b))) y ∙ is_open in cc
 
-      mutual
-        unfolding Each Each_all Data All_data read all_read replaced all_replaced
+        mutual
+          unfolding Each Each_all Data All_data read all_read replaced all_replaced
 
-        settles : (p : Size) (j : ℕ) → Data p → Each (Okay In ok) j p → Each (λ l d. Resolved δ j d) 0 p → Each (Scoped Is_settled) j (read τ (replaced (dim_in φ) j p))
-        settles (Hole v) j d h s = tt
-        settles (Open a v u) j d h s = absurd d
-        settles (Level e p) j d h s = (one_settled j e h.0 s.0, settles p j d h.1 s.1)
-        settles (Built g ps) j d h s = all_settle ps j d h s
-        settles (Fun k p r) j d h s = absurd d
+          absent : (x : Size) → Data x → Each (Okay In ok) 0 x → Each (Scoped Is_settled) 0 (read τ (replaced (dim_in φ) 0 x)) → Each (Of_positions (λ m. m ≡ p → ⊥)) 1 x
+          absent (Hole v) d h s = tt
+          absent (Open a v u) d h s = absurd d
+          absent (Level e x) d h s = (one_absent e h.0 s.0, absent x d h.1 s.1)
+          absent (Built g xs) d h s = all_absent xs d h s
+          absent (Fun k y r) d h s = absurd d
 
-        all_settle : (ps : Sizes) (j : ℕ) → All_data ps → Each_all (Okay In ok) j ps → Each_all (λ l d. Resolved δ j d) 0 ps → Each_all (Scoped Is_settled) j (all_read τ (all_replaced (dim_in φ) j ps))
-        all_settle no_size j d h s = tt
-        all_settle (size_and p ps) j d h s = (settles p j d.0 h.0 s.0, all_settle ps j d.1 h.1 s.1)
+          all_absent : (xs : Sizes) → All_data xs → Each_all (Okay In ok) 0 xs → Each_all (Scoped Is_settled) 0 (all_read τ (all_replaced (dim_in φ) 0 xs)) → Each_all (Of_positions (λ m. m ≡ p → ⊥)) 1 xs
+          all_absent no_size d h s = tt
+          all_absent (size_and x xs) d h s = (absent x d.0 h.0 s.0, all_absent xs d.1 h.1 s.1)
 
-      alone_resolved : (l : ℕ) (d : Dim) → Alone Is_settled l d → Resolved δ 0 d
-      alone_resolved l (At x) h k i e m = absurd (let z : At x ≡ Bound k i = e in cc)
-      alone_resolved l (Bound a b) h k i e m = absurd h
+        alone_absent : (l : ℕ) (d : Dim) → Alone Is_settled l d → Of_positions (λ m. m ≡ p → ⊥) l d
+        alone_absent l (At x) h = tt
+        alone_absent l (Bound a b) h = absurd h
 
-      taken_resolved : (p t : Size) → Taken_by p t → Each (Okay In ok) 0 p → Each (Scoped Is_settled) 0 (read τ (replaced (dim_in φ) 0 p)) → Each (λ l d. Resolved δ 0 d) 0 p
-      taken_resolved p t (inl d) h s = resolved p d.0.0 h s
-      taken_resolved p t (inr f) h s = each_as (Alone Is_settled) (λ l d. Resolved δ 0 d) alone_resolved p 0 f.alone
-
-      taken_settles : (p t : Size) (j : ℕ) → Taken_by p t → Each (Okay In ok) j p → Each (λ l d. Resolved δ j d) 0 p → Each (Scoped Is_settled) j (read τ (replaced (dim_in φ) j p))
-      taken_settles p t j (inl d) h s = settles p j d.0.0 h s
-      taken_settles p t j (inr f) h s = subst (Each (Scoped Is_settled) j) (sym (ap (read τ) (alone_replaced Is_settled (dim_in φ) (λ i x. refl) p 0 j f.alone) ∙ read_settled τ p 0 (alone_scoped Is_settled p 0 f.alone) f.closed)) (alone_scoped Is_settled p j (alone_at Is_settled p 0 j f.alone))
-
-      abbrev All_resolved : List Given → ℕ → Size → Type 0
-      All_resolved (g ∷ gs) j (Fun k p r) = Each (λ l d. Resolved δ (suc j) d) 0 p × All_resolved gs (suc j) r
-      All_resolved gs j t = Unit {0}
-
-      parameters_settled : (gs : List Given) (t : Size) (j : ℕ) → Takes_all gs t → Each (Okay In ok) j t → All_resolved gs j t → Settled_parameters j (read τ (replaced (dim_in φ) j t))
-      unfolding Settled_parameters Each Data read replaced
-      parameters_settled [] (Hole v) j h e a = tt
-      parameters_settled [] (Open b v u) j h e a = absurd h
-      parameters_settled [] (Level d t) j h e a = tt
-      parameters_settled [] (Built g ts) j h e a = tt
-      parameters_settled [] (Fun zero p r) j h e a = gives_settled τ (dim_in φ) (Fun zero p r) j j h
-      parameters_settled [] (Fun (suc k) p r) j h e a = absurd h
-      parameters_settled (g ∷ gs) (Fun k p r) j h e a = (taken_settles p g.size (suc j) h.0 e.0 a.0, parameters_settled gs r (suc j) h.1 e.1 a.1)
-      parameters_settled (g ∷ gs) (Hole v) j h e a = absurd h
-      parameters_settled (g ∷ gs) (Open b v u) j h e a = absurd h
-      parameters_settled (g ∷ gs) (Level d t) j h e a = absurd h
-      parameters_settled (g ∷ gs) (Built f ts) j h e a = absurd h
-
-    module _ (φ ψ : Opened) (ok ok' : ℕ → ℕ → Type 0) (δ : Frames) (framed : Framed φ ok δ) (f : ℕ → Free) (framed' : Framed ψ ok' (pushed f δ)) where
-      all_shifted : (gs : List Given) (t : Size) (j : ℕ) → All_resolved ψ ok' (pushed f δ) framed' gs j t → All_resolved φ ok δ framed gs (suc j) t
-      all_shifted [] t j a = tt
-      all_shifted (g ∷ gs) (Fun k p r) j a = (each_as (λ l d. Resolved (pushed f δ) (suc j) d) (λ l d. Resolved δ (suc (suc j)) d) (λ l d h. shifted f δ (suc j) d h) p 0 a.0, all_shifted gs r (suc j) a.1)
-      all_shifted (g ∷ gs) (Hole v) j a = tt
-      all_shifted (g ∷ gs) (Open b v u) j a = tt
-      all_shifted (g ∷ gs) (Level d t) j a = tt
-      all_shifted (g ∷ gs) (Built h ts) j a = tt
+        taken_absent : (x t : Size) → Taken_by x t → Each (Okay In ok) 0 x → Each (Scoped Is_settled) 0 (read τ (replaced (dim_in φ) 0 x)) → Each (Of_positions (λ m. m ≡ p → ⊥)) 1 x
+        taken_absent x t (inl d) h s = absent x d.0.0 h s
+        taken_absent x t (inr f) h s = each_as (Alone Is_settled) (Of_positions (λ m. m ≡ p → ⊥)) alone_absent x 1 (alone_at Is_settled x 0 1 f.alone)
 
     -- ---- the sized types of all functions and arguments
 
@@ -338,36 +301,75 @@ module _ (N : Names) (types : Sub) (τ : Found) (n : ℕ) where
     Unnamed (g ∷ gs) s = (g.named ≡ false → s g.node ≡ g.size) × Unnamed gs s
 
     module _ (P : Free → Type 0) (settled : (d : Free) → P d → is_slot d ≡ false) where
+      -- what one function's positions stand for: each size that is chosen stands in the parameter, and so is found
+      module _ (gs : List Given) (g : Given) (φ : Opened) (k : ℕ) (p r : Size) (σ : Found) (ok : ℕ → ℕ → Type 0) (δ : Frames) (found : All_found ok δ) (framed' : Framed (opened_by n gs g σ k φ) (more (Meant k g) ok) (pushed (frame (here n gs) σ.next k (number_value g)) δ))
+          (taken : Taken_by p g.size) (okay : Each (Okay In (more (Meant k g) ok)) 0 p) (formed : Formed (Fun k p r)) (a : Plain_given n In P no_slot settled g) (reads : read τ (in_opened (opened_by n gs g σ k φ) p) ≡ g.size) where
+        abbrev here_frame : ℕ → Free
+        here_frame i = frame (here n gs) σ.next k (number_value g) i
+
+        value_found : (v : Option Free) → ((d : Free) → v ≡ Some d → is_slot d ≡ false) → is_slot (found_size τ (or_unknown v (Unknown (here n gs) (σ.next + k)))) ≡ false
+        value_found None h = refl
+        value_found (Some d) h = ap is_slot (found_settled τ d (h d refl)) ∙ h d refl
+
+        number_settled : (c : Bool) (d : Free) → cond c g.value None ≡ Some d → is_slot d ≡ false
+        number_settled true d e = a.2 d e
+        number_settled false d e = absurd (let z : ◌≡◌ {A = Option Free} None (Some d) = e in cc)
+
+        low_found : (i : ℕ) (b : Bool) → nat_lt i k ≡ b → (c : Bool) → is_slot (τ.size (σ.next + i)) ≡ c → is_slot (found_size τ (here_frame i)) ≡ false
+        unfolding pushed Formed
+        low_found i true e true s = absurd (formed.4 i (ltb-true i k e) (taken_absent (opened_by n gs g σ k φ) (more (Meant k g) ok) (pushed (frame (here n gs) σ.next k (number_value g)) δ) framed' i (ap (λ b. is_slot (found_size τ (cond b (Slot (σ.next + i)) (cond (nat_eq i k) (or_unknown (number_value g) (Unknown (here n gs) (σ.next + k))) (Unknown (here n gs) (σ.next + i)))))) e ∙ s)
+            p g.size taken okay (subst (Each (Scoped Is_settled) 0) (sym reads) (each_scoped P Is_settled settled g.size 0 a.1))))
+        low_found i true e false s = ap (λ b. is_slot (found_size τ (cond b (Slot (σ.next + i)) (cond (nat_eq i k) (or_unknown (number_value g) (Unknown (here n gs) (σ.next + k))) (Unknown (here n gs) (σ.next + i)))))) e ∙ s
+        low_found i false e c s = ap (λ b. is_slot (found_size τ (cond b (Slot (σ.next + i)) (cond (nat_eq i k) (or_unknown (number_value g) (Unknown (here n gs) (σ.next + k))) (Unknown (here n gs) (σ.next + i)))))) e ∙ by_value (nat_eq i k)
+          where
+            by_value : (b : Bool) → is_slot (found_size τ (cond b (or_unknown (number_value g) (Unknown (here n gs) (σ.next + k))) (Unknown (here n gs) (σ.next + i)))) ≡ false
+            by_value true = value_found (number_value g) (number_settled (is_i64_size g.size))
+            by_value false = refl
+
+        found_more : All_found (more (Meant k g) ok) (pushed (frame (here n gs) σ.next k (number_value g)) δ)
+        unfolding more pushed
+        found_more zero i w = low_found i (nat_lt i k) refl (is_slot (τ.size (σ.next + i))) refl
+        found_more (suc j) i w = found j i w
+
       -- one argument more
-      one_stage_more : (gs : List Given) (g : Given) (φ : Opened) (k : ℕ) (p r : Size) (σ : Found) (ok : ℕ → ℕ → Type 0) (δ : Frames) (framed : Framed φ ok δ) → Takes_all (g ∷ gs) (Fun k p r) → Each (Okay In ok) 0 (Fun k p r) → Each (Okay In (more (Meant k g) ok)) 0 p → Each_hole Any_variable (Fun k p r) → Each_hole Any_variable p → Plain_given n In P no_slot settled g
+      one_stage_more : (gs : List Given) (g : Given) (φ : Opened) (k : ℕ) (p r : Size) (σ : Found) (ok : ℕ → ℕ → Type 0) (δ : Frames) (framed : Framed φ ok δ) → All_found ok δ → Takes_all (g ∷ gs) (Fun k p r) → Each (Okay In ok) 0 (Fun k p r) → Each (Okay In (more (Meant k g) ok)) 0 p → Formed (Fun k p r) → Each_hole Any_variable (Fun k p r) → Each_hole Any_variable p → Plain_given n In P no_slot settled g
           → read τ (in_opened (opened_by n gs g σ k φ) p) ≡ g.size → (s : ℕ → Size) → s (suc (here n gs)) ≡ value_of N types τ (record { node = suc (here n gs); size = in_opened φ (Fun k p r) }) → Right N types τ (uses (wants n (g ∷ gs) φ (Fun k p r) σ)) s → (g.named ≡ false → s g.node ≡ g.size)
-          → ((framed' : Framed (opened_by n gs g σ k φ) (more (Meant k g) ok) (pushed (frame (here n gs) σ.next k (number_value g)) δ)) → Right N types τ (uses (wants n gs (opened_by n gs g σ k φ) r (after n gs g σ k))) s → Stages gs (pushed (frame (here n gs) σ.next k (number_value g)) δ) r (after n gs g σ k) s × All_resolved (opened_by n gs g σ k φ) (more (Meant k g) ok) (pushed (frame (here n gs) σ.next k (number_value g)) δ) framed' gs 0 r)
-          → Stages (g ∷ gs) δ (Fun k p r) σ s × All_resolved φ ok δ framed (g ∷ gs) 0 (Fun k p r)
-      one_stage_more gs g φ k p r σ ok δ framed h e ep o op a reads s noted named unnamed go =
+          → ((framed' : Framed (opened_by n gs g σ k φ) (more (Meant k g) ok) (pushed (frame (here n gs) σ.next k (number_value g)) δ)) → All_found (more (Meant k g) ok) (pushed (frame (here n gs) σ.next k (number_value g)) δ) → Right N types τ (uses (wants n gs (opened_by n gs g σ k φ) r (after n gs g σ k))) s → Stages gs (pushed (frame (here n gs) σ.next k (number_value g)) δ) r (after n gs g σ k) s)
+          → Stages (g ∷ gs) δ (Fun k p r) σ s
+      one_stage_more gs g φ k p r σ ok δ framed found h e ep fm o op a reads s noted named unnamed go =
           let framed' : Framed (opened_by n gs g σ k φ) (more (Meant k g) ok) (pushed (frame (here n gs) σ.next k (number_value g)) δ) = push_framed φ ok δ _ (frame (here n gs) σ.next k (number_value g)) (Meant k g) (framed_as (here n gs) σ.next k g) framed in
           let given_settled : Each (Scoped Is_settled) 0 g.size = each_scoped P Is_settled settled g.size 0 a.1 in
           let argument_here = use_here g.named g.node g.value g.size (opened_by n gs g σ k φ) p (uses (wants n gs (opened_by n gs g σ k φ) r (after n gs g σ k))) s g.size unnamed (ap (quantified τ.maker) reads ∙ none_quantified τ.maker g.size given_settled) named in
-          let rest = go framed' argument_here.1 in
-          let parameter_resolved : Each (λ l d. Resolved (pushed (frame (here n gs) σ.next k (number_value g)) δ) 0 d) 0 p = taken_resolved (opened_by n gs g σ k φ) (more (Meant k g) ok) (pushed (frame (here n gs) σ.next k (number_value g)) δ) framed' p g.size h.0 ep (subst (λ w. Each (Scoped Is_settled) 0 w) (sym reads) given_settled) in
-          let all_here : All_resolved φ ok δ framed (g ∷ gs) 0 (Fun k p r) = (
-            each_as (λ l d. Resolved (pushed (frame (here n gs) σ.next k (number_value g)) δ) 0 d) (λ l d. Resolved δ 1 d) (λ l d y. shifted (frame (here n gs) σ.next k (number_value g)) δ 0 d y) p 0 parameter_resolved,
-            all_shifted φ (opened_by n gs g σ k φ) ok (more (Meant k g) ok) δ framed (frame (here n gs) σ.next k (number_value g)) framed' gs r 0 rest.1,
-          ) in
-          let function_here : s (suc (here n gs)) ≡ filled (ended δ) 0 (Fun k p r) = noted ∙ quantified_as τ.maker (read τ (in_opened φ (Fun k p r))) (parameters_settled φ ok δ framed (g ∷ gs) (Fun k p r) 0 h e all_here)
+          let rest = go framed' (found_more gs g φ k p r σ ok δ found framed' h.0 ep fm a reads) argument_here.1 in
+          let function_here : s (suc (here n gs)) ≡ filled (ended δ) 0 (Fun k p r) = noted ∙ quantified_as τ.maker (read τ (in_opened φ (Fun k p r))) (settled_parameters (read τ (in_opened φ (Fun k p r))) 0 (settles φ ok δ framed found (Fun k p r) 0 e o))
           ∙ closes In no_slot φ ok δ framed τ (Fun k p r) 0 0 e o in
           let argument_fits : filled (ended (pushed (frame (here n gs) σ.next k (number_value g)) δ)) 0 p ≡ g.size = sym (closes In no_slot (opened_by n gs g σ k φ) (more (Meant k g) ok) (pushed (frame (here n gs) σ.next k (number_value g)) δ) framed' τ p 0 0 ep op) ∙ ap (renamed (unknown_slot τ.maker)) reads ∙ no_unknown τ.maker g.size 0 given_settled in
-          ((function_here, (argument_fits, (argument_here.0, rest.0))), all_here)
+          (function_here, (argument_fits, (argument_here.0, rest)))
 
-      pub stages : (gs : List Given) (φ : Opened) (t : Size) (σ : Found) (ok : ℕ → ℕ → Type 0) (δ : Frames) (framed : Framed φ ok δ) → Takes_all gs t → Each (Okay In ok) 0 t → Formed t → Each_hole Any_variable t → All_plain n In P no_slot settled gs → Reads n In P no_slot settled gs φ t σ τ
+      pub stages : (gs : List Given) (φ : Opened) (t : Size) (σ : Found) (ok : ℕ → ℕ → Type 0) (δ : Frames) (framed : Framed φ ok δ) → All_found ok δ → Takes_all gs t → Each (Okay In ok) 0 t → Formed t → Each_hole Any_variable t → All_plain n In P no_slot settled gs → Reads n In P no_slot settled gs φ t σ τ
           → (s : ℕ → Size) → Right N types τ (laters n gs φ t σ) s → Right N types τ (uses (wants n gs φ t σ)) s → Unnamed gs s → s n ≡ renamed (unknown_slot τ.maker) (read τ (in_opened (last_opened n gs φ t σ) (last_size n gs t)))
-          → Stages gs δ t σ s × All_resolved φ ok δ framed gs 0 t
+          → Stages gs δ t σ s
       unfolding Each Each_hole Formed
-      stages [] φ t σ ok δ framed h e fm o a q s r1 r2 u z = (z ∙ closes In no_slot φ ok δ framed τ t 0 0 e o, tt)
-      stages (g ∷ gs) φ (Fun k p r) σ ok δ framed h e fm o a q s r1 r2 u z =
+      stages [] φ t σ ok δ framed found h e fm o a q s r1 r2 u z = z ∙ closes In no_slot φ ok δ framed τ t 0 0 e o
+      stages (g ∷ gs) φ (Fun k p r) σ ok δ framed found h e fm o a q s r1 r2 u z =
           let w = step_in In ok k p r g fm a.0.0 (taken_typed p g.size h.0) e in
-          one_stage_more gs g φ k p r σ ok δ framed h e w.0 o o.0 a.0 q.0 s r1.0 r2 u.0
-          (λ framed' r3. stages gs (opened_by n gs g σ k φ) r (after n gs g σ k) (more (Meant k g) ok) (pushed (frame (here n gs) σ.next k (number_value g)) δ) framed' h.1 w.1 fm.1 o.1 a.1 q.1 s r1.1 r3 u.1 z)
-      stages (g ∷ gs) φ (Hole v) σ ok δ framed h e fm o a q s r1 r2 u z = absurd h
-      stages (g ∷ gs) φ (Open m v x) σ ok δ framed h e fm o a q s r1 r2 u z = absurd h
-      stages (g ∷ gs) φ (Level d t) σ ok δ framed h e fm o a q s r1 r2 u z = absurd h
-      stages (g ∷ gs) φ (Built b ts) σ ok δ framed h e fm o a q s r1 r2 u z = absurd h
+          one_stage_more gs g φ k p r σ ok δ framed found h e w.0 fm o o.0 a.0 q.0 s r1.0 r2 u.0
+          (λ framed' found' r3. stages gs (opened_by n gs g σ k φ) r (after n gs g σ k) (more (Meant k g) ok) (pushed (frame (here n gs) σ.next k (number_value g)) δ) framed' found' h.1 w.1 fm.1 o.1 a.1 q.1 s r1.1 r3 u.1 z)
+      stages (g ∷ gs) φ (Hole v) σ ok δ framed found h e fm o a q s r1 r2 u z = absurd h
+      stages (g ∷ gs) φ (Open m v x) σ ok δ framed found h e fm o a q s r1 r2 u z = absurd h
+      stages (g ∷ gs) φ (Level d t) σ ok δ framed found h e fm o a q s r1 r2 u z = absurd h
+      stages (g ∷ gs) φ (Built b ts) σ ok δ framed found h e fm o a q s r1 r2 u z = absurd h
+
+      -- what is given has no slot, so that nothing in it is chosen again
+      pub last_settled : (gs : List Given) (φ : Opened) (t : Size) (σ : Found) (ok : ℕ → ℕ → Type 0) (δ : Frames) (framed : Framed φ ok δ) → All_found ok δ → Takes_all gs t → Each (Okay In ok) 0 t → Formed t → Each_hole Any_variable t → All_plain n In P no_slot settled gs → Reads n In P no_slot settled gs φ t σ τ
+          → Settled_parameters 0 (read τ (in_opened (last_opened n gs φ t σ) (last_size n gs t)))
+      unfolding Each Each_hole Formed
+      last_settled [] φ t σ ok δ framed found h e fm o a q = settled_parameters (read τ (in_opened φ t)) 0 (settles φ ok δ framed found t 0 e o)
+      last_settled (g ∷ gs) φ (Fun k p r) σ ok δ framed found h e fm o a q =
+          let w = step_in In ok k p r g fm a.0.0 (taken_typed p g.size h.0) e in
+          let framed' : Framed (opened_by n gs g σ k φ) (more (Meant k g) ok) (pushed (frame (here n gs) σ.next k (number_value g)) δ) = push_framed φ ok δ _ (frame (here n gs) σ.next k (number_value g)) (Meant k g) (framed_as (here n gs) σ.next k g) framed in
+          last_settled gs (opened_by n gs g σ k φ) r (after n gs g σ k) (more (Meant k g) ok) (pushed (frame (here n gs) σ.next k (number_value g)) δ) framed' (found_more gs g φ k p r σ ok δ found framed' h.0 w.0 fm a.0 q.0) h.1 w.1 fm.1 o.1 a.1 q.1
+      last_settled (g ∷ gs) φ (Hole v) σ ok δ framed found h e fm o a q = absurd h
+      last_settled (g ∷ gs) φ (Open m v x) σ ok δ framed found h e fm o a q = absurd h
+      last_settled (g ∷ gs) φ (Level d t) σ ok δ framed found h e fm o a q = absurd h
+      last_settled (g ∷ gs) φ (Built b ts) σ ok δ framed found h e fm o a q = absurd h

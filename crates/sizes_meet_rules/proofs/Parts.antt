@@ -88,6 +88,22 @@ module _ (N : Names) (types : Sub) (home : ℕ → ℕ) (K : Kinds) (places : Ki
     pub given_inner : (g : Given) (st behind : State) → Inner N types home In Vars scope g.term g.node (g.node + numbers g.term) st g.size behind → Given_inner (g.node + numbers g.term) g st behind
     given_inner g st behind I = record { says = I.says; typed = I.typed; kept = I.kept; dropped = I.dropped; rules = I.rules }
 
+    -- the value of a name or a constant is no slot
+    no_slot_named : (e : FlatTerm) (d : Free) → named_value e ≡ Some d → is_slot d ≡ false
+    no_slot_named (Use (ref.Bound b) at k) d z = let w : Name b.0 ≡ d = cc in ap is_slot (sym w)
+    no_slot_named (Use (ref.Prim p) at k) d z = absurd (let w : ◌≡◌ {A = Option Free} None (Some d) = z in cc)
+    no_slot_named (Use (ref.Scalar s) at k) d z = absurd (let w : ◌≡◌ {A = Option Free} None (Some d) = z in cc)
+    no_slot_named (Strict (Integer c t) mark no_term) d z = by_fit (fits_i64 c) z
+      where
+        by_fit : (b : Bool) → cond b (Some (Const c)) None ≡ Some d → is_slot d ≡ false
+        by_fit true q = let w : Const c ≡ d = cc in ap is_slot (sym w)
+        by_fit false q = absurd (let w : ◌≡◌ {A = Option Free} None (Some d) = q in cc)
+    no_slot_named e d z = absurd (let w : ◌≡◌ {A = Option Free} None (Some d) = z in cc)
+
+    value_settled : (g : Given) → (g.value ≡ None) ⊎ (g.value ≡ named_value g.term) → (d : Free) → g.value ≡ Some d → is_slot d ≡ false
+    value_settled g (inl e) d z = absurd (let w : ◌≡◌ {A = Option Free} None (Some d) = sym e ∙ z in cc)
+    value_settled g (inr e) d z = no_slot_named g.term d (sym e ∙ z)
+
     -- an argument that is sized between two states
     pub record Given_meets (upto : ℕ) (g : Given) (st behind : State) : Type 0 where
       pub value_is : (g.value ≡ None) ⊎ (g.value ≡ named_value g.term)
@@ -282,7 +298,7 @@ module _ (N : Names) (types : Sub) (home : ℕ → ℕ) (K : Kinds) (places : Ki
         all_plain [] st A from l p h = tt
         all_plain (g ∷ gs) st A from l p h =
             let M = part_meets hi A0 B g st h.0 h.1.0 (let y = p.0 in let z = placed_order gs (from + numbers g.term) hi p.1 in omega (arith, y, z)) in
-            ((M.inner.says.formed, given_in hi g (first_state hi A0 B g st h.0 h.1.0) (last_state hi A0 B g st h.0 h.1.0) M (let y = p.0 in omega (arith, y, l)) (omega arith)), all_plain gs h.0 A (from + numbers g.term) (omega (arith, l)) p.1 h.1.1)
+            ((M.inner.says.formed, given_in hi g (first_state hi A0 B g st h.0 h.1.0) (last_state hi A0 B g st h.0 h.1.0) M (let y = p.0 in omega (arith, y, l)) (omega arith), value_settled g M.value_is), all_plain gs h.0 A (from + numbers g.term) (omega (arith, l)) p.1 h.1.1)
 
       pub one_fit : (g : Given) (st mid : State) → Data_meets g st mid → first ≤ g.node → g.node + numbers g.term ≤ hi → Data_given P Vars K types g
       one_fit g st mid m l l' = (((param_data N types home K places g.size g.node data_places m.1.0 m.0.inner.says.formed m.0.inner.typed, m.0.inner.says.formed, given_in (g.node + numbers g.term) g st mid m.0 l l', m.0.inner.says.variables), m.1.1), (m.0.inner.typed, let k = m.1.0 in omega (arith, data_places, k)))
