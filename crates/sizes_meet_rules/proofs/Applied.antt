@@ -10,7 +10,7 @@ use Rattle.fut_types.specs.Types.{Ty, fun_ty, Sub, Kinds, HasKind, rank, level}
 use Rattle.fut_typing.specs.Names.{Names}
 use Rattle.sized_types.specs.Sizes.{Free, Const, Name, Own, Unknown, Slot, Variable, Size, Hole, Open, Level, Built, Fun, erased, renamed}
 use Rattle.fut_sizes.specs.Agreeing.{Answer}
-use Rattle.fut_sizes.specs.Applications.{Later, Argument, Part, Applied, uses}
+use Rattle.fut_sizes.specs.Applications.{Later, Argument, Early, Part, Applied, uses}
 use Rattle.fut_sizes.specs.Primitives.{prim_size, is_regular}
 use Rattle.fut_sizes.specs.Functions.{is_slot, unknown_slot, closed}
 use Rattle.fut_sizes.specs.Matching.{Found, nothing_found, made_at, found_size, read, none_opened, dim_in, in_opened}
@@ -35,7 +35,7 @@ use Rattle.fut_sizes.specs.Levels.{levels_within}
 use Rattle.fut_sizes.specs.Applications.{Want, Met}
 use Rattle.sizes_meet_rules.proofs.Meeting.{Meets}
 use Rattle.sizes_meet_rules.proofs.Heads.{Head, Primitive_head, Resolved, resolved, primitive_lambda, primitive_named, primitive_wide}
-use Rattle.sizes_meet_rules.proofs.Parts.{spine, all_some, Data_meets, Function_meets, Lambda_waits, Lambda_wide, Named_wide, Given_meets, All_given, One_waits, First_waits, All_parts, below, none_dropped, not_in_outside, Later_part, all_plain, all_fit, Last_says, last_says, Inner_nodes, nodes_of, stage_here, rules_all}
+use Rattle.sizes_meet_rules.proofs.Parts.{spine, all_some, Data_meets, Function_meets, Lambda_waits, Lambda_wide, Named_wide, Given_meets, given_meets_as, All_given, One_waits, First_waits, All_parts, below, none_dropped, not_in_outside, Later_part, all_plain, all_fit, Last_says, last_says, Inner_nodes, nodes_of, stage_here, rules_all}
 use Rattle.sizes_meet_rules.proofs.Later.{own_state, with_size, sized_by, state_by, Went_by, sized_arguments, sized_arrows, sized_spine, sized_placed, sized_widths, data_parts, one_parts, none_later, one_later, one_given}
 use Rattle.sizes_meet_rules.proofs.Spines.{Spine, Spine_meets, Spine_law}
 use Rattle.sizes_meet_rules.proofs.Named.{named_found, same_named, named_size, named_is_function, Used_as}
@@ -47,7 +47,7 @@ use Rattle.sizes_meet_rules.proofs.Wide.{same_wanted, same_behind, wide_size, wi
 module _ (N : Names) (types : Sub) (home : ℕ → ℕ) (K : Kinds) (places : Kind) (data_places : 1 ≤ level places) where
   -- ---- with the numbers that are kept for each result
 
-  wide_argument : (g : Given) (m : ℕ) (o : Option Argument) → argument_by o (record { node = g.node; value = g.value; named = g.named; size = g.size; term = g.term; width = m; waits = g.waits }) ≡ argument_by o g
+  wide_argument : (g : Given) (m : ℕ) (o : Option Argument) → argument_by o (record { node = g.node; value = g.value; named = g.named; size = g.size; own = g.own; term = g.term; width = m; waits = g.waits }) ≡ argument_by o g
   wide_argument g m None = refl
   wide_argument g m (Some f) = refl
 
@@ -84,11 +84,11 @@ module _ (N : Names) (types : Sub) (home : ℕ → ℕ) (K : Kinds) (places : Ki
   wide_placed (g ∷ gs) (Built f ts) from hi p = p
 
   module _ (In : Free → Type 0) (Vars : Variable → Type 0) (scope : Scope) where
-    wide_data : (g : Given) (m : ℕ) (st mid : State) → Data_meets N types home K places data_places In Vars scope g st mid → Data_meets N types home K places data_places In Vars scope (record { node = g.node; value = g.value; named = g.named; size = g.size; term = g.term; width = m; waits = g.waits }) st mid
-    wide_data g m st mid h = (record { value_is = h.0.value_is; inner = record { says = h.0.inner.says; typed = h.0.inner.typed; kept = h.0.inner.kept; dropped = h.0.inner.dropped; rules = h.0.inner.rules }; noted = h.0.noted; value_known = h.0.value_known }, h.1)
+    wide_data : (g : Given) (m : ℕ) (st mid : State) → Data_meets N types home K places data_places In Vars scope g st mid → Data_meets N types home K places data_places In Vars scope (record { node = g.node; value = g.value; named = g.named; size = g.size; own = g.own; term = g.term; width = m; waits = g.waits }) st mid
+    wide_data g m st mid h = (record { value_is = h.0.value_is; inner = record { says = h.0.inner.says; typed = h.0.inner.typed; kept = h.0.inner.kept; dropped = h.0.inner.dropped; rules = h.0.inner.rules }; noted = h.0.noted; value_known = h.0.value_known; suits = h.0.suits; own_sizes = h.0.own_sizes; own_named = h.0.own_named; own_number = h.0.own_number }, h.1)
 
-    wide_function : (g : Given) (m : ℕ) (st mid : State) → Function_meets N types home K places data_places In Vars scope g st mid → Function_meets N types home K places data_places In Vars scope (record { node = g.node; value = g.value; named = g.named; size = g.size; term = g.term; width = m; waits = g.waits }) st mid
-    wide_function g m st mid h = (record { value_is = h.0.value_is; inner = record { says = h.0.inner.says; typed = h.0.inner.typed; kept = h.0.inner.kept; dropped = h.0.inner.dropped; rules = h.0.inner.rules }; noted = h.0.noted; value_known = h.0.value_known }, h.1)
+    wide_function : (g : Given) (m : ℕ) (st mid : State) → Function_meets N types home K places data_places In Vars scope g st mid → Function_meets N types home K places data_places In Vars scope (record { node = g.node; value = g.value; named = g.named; size = g.size; own = g.own; term = g.term; width = m; waits = g.waits }) st mid
+    wide_function g m st mid h = (record { value_is = h.0.value_is; inner = record { says = h.0.inner.says; typed = h.0.inner.typed; kept = h.0.inner.kept; dropped = h.0.inner.dropped; rules = h.0.inner.rules }; noted = h.0.noted; value_known = h.0.value_known; suits = h.0.suits; own_sizes = h.0.own_sizes; own_named = h.0.own_named; own_number = h.0.own_number }, h.1)
 
     wide_given : (gs : List Given) (t : Size) (st A : State) → All_given N types home K places data_places In Vars scope gs st A → All_given N types home K places data_places In Vars scope (widened gs t) st A
     wide_given [] t st A h = h
@@ -98,7 +98,7 @@ module _ (N : Names) (types : Sub) (home : ℕ → ℕ) (K : Kinds) (places : Ki
     wide_given (g ∷ gs) (Level d t) st A h = h
     wide_given (g ∷ gs) (Built f ts) st A h = h
 
-    wide_lambda : (g : Given) (m : ℕ) → Lambda_waits N types home K places data_places In Vars scope g → Lambda_waits N types home K places data_places In Vars scope (record { node = g.node; value = g.value; named = g.named; size = g.size; term = g.term; width = m; waits = g.waits })
+    wide_lambda : (g : Given) (m : ℕ) → Lambda_waits N types home K places data_places In Vars scope g → Lambda_waits N types home K places data_places In Vars scope (record { node = g.node; value = g.value; named = g.named; size = g.size; own = g.own; term = g.term; width = m; waits = g.waits })
     wide_lambda g m h = record { st = h.st; part = h.part; waits = h.waits; waits_is = h.waits_is; value = h.value; named = h.named; flat = h.flat }
 
     wide_waits : (gs : List Given) (t : Size) (st A : State) → One_waits N types home K places data_places In Vars scope gs st A → One_waits N types home K places data_places In Vars scope (widened gs t) st A
@@ -583,7 +583,7 @@ module _ (N : Names) (types : Sub) (home : ℕ → ℕ) (K : Kinds) (places : Ki
         term_there = S.some
 
         abbrev given_named : Named_given named_now
-        given_named = record { own = L.own; waits = L.waits_is; named = L.named; own_fun = L.own_fun; is_fun = named_is_function H.node types_here (prim_size H.primitive) named_answer }
+        given_named = record { own = L.own; waits = L.waits_is ∙ ap (λ b. Some (Early g.node g.value b L.own)) (sym L.named); own_fun = L.own_fun; is_fun = named_is_function H.node types_here (prim_size H.primitive) named_answer }
 
         named_width : (t : Size) → Widths (g ∷ gs) t → Widths (named_now ∷ gs) t
         named_width (Fun k p r) w = w
@@ -596,22 +596,17 @@ module _ (N : Names) (types : Sub) (home : ℕ → ℕ) (K : Kinds) (places : Ki
         R_named = primitive_named N types home K In Vars scope S.term S.size S.regular S.type In_all (λ x i. inl i) (settled_here (named_now ∷ gs) named_arguments named_arrows named_spine named_placed tt) lo named_now gs d.state u (types lo) (arrows_there (named_now ∷ gs) named_arguments named_arrows named_spine named_placed tt)
             (named_width S.size (subst (λ ws. Widths ws S.size) (sym z) (widened_widths S.given S.size))) (ran_there (named_now ∷ gs) named_arguments named_arrows named_spine named_placed tt) H (data_kind H)
             given_named L.of_function.0 L.of_function.1.0 L.of_function.1.1 data_behind (record { formed = L.says.formed; sizes = each_scoped In In_all (λ x i. inl i) L.own 0 L.says.sizes; variables = L.says.variables; arrows = L.arrows }) L.typed
-            (ap (named_size H.node types_here (prim_size H.primitive)) (sym (same_named lo (is_regular H.primitive) g (named_size H.node types_here (prim_size H.primitive) named_answer) L.own gs named_opened)))
+            (ap (named_size H.node types_here (prim_size H.primitive)) (sym (same_named lo (is_regular H.primitive) g (named_size H.node types_here (prim_size H.primitive) named_answer) (named_size H.node types_here (prim_size H.primitive) named_answer) L.own gs named_opened)))
             (λ b w. fresh_at (here lo gs) (omega arith) (let n = term_there in omega (arith, n)) (Unknown (here lo gs) b) w refl) lo (suc lo) (λ e. omega (arith, e)) (λ x w. (fresh_at lo (omega arith) (omega arith) x w, fresh_at (suc lo) (omega arith) (let n = term_there in omega (arith, n)) x w))
 
         named_meets : Used_as In_all Vars L.own named_now.size → Given_meets N types home K places data_places In Vars scope end_here named_now d.state d.state
-        named_meets U = record {
-          value_is = L.value_is;
-          inner = record {
-            says = record { sizes = subst (λ m. Each (Scoped (λ x. With_met In m end_here x)) 0 named_now.size) begins_at U.says.sizes; variables = U.says.variables; formed = U.says.formed };
-            typed = U.typed ∙ L.typed;
-            kept = λ n o. refl;
-            dropped = λ n o. refl;
-            rules = λ s G J e a. L.rules s G J (subst (Suits L.own) (sym e) U.suits);
-          };
-          noted = λ e. absurd (let y : true ≡ false = sym L.named ∙ e in cc);
-          value_known = L.value_known;
-        }
+        named_meets U = given_meets_as N types home K places data_places In Vars scope end_here named_now d.state d.state refl L.value_is (record {
+          says = record { sizes = subst (λ m. Each (Scoped (λ x. With_met In m end_here x)) 0 named_now.size) begins_at U.says.sizes; variables = U.says.variables; formed = U.says.formed };
+          typed = U.typed ∙ L.typed;
+          kept = λ n o. refl;
+          dropped = λ n o. refl;
+          rules = λ s G J e a. L.rules s G J (subst (Suits L.own) (sym e) U.suits);
+        }) (λ e. absurd (let y : true ≡ false = sym L.named ∙ e in cc)) L.value_known
 
         one_named : Meets N types home In Vars scope f lo end_here st u.result u.state
         one_named = meets_there (named_now ∷ gs) named_arguments named_arrows named_spine named_placed tt (λ s. Used_as In_all Vars L.own named_now.size × (s ≡ d.state)) R_named

@@ -26,7 +26,7 @@ use Rattle.sizes_meet_rules.proofs.Flat_types.{flat, flat_is}
 use Rattle.sizes_meet_rules.proofs.Lambdas.{Early_function, One_given, Waiting_fit, Lambda_result, Wants_formed}
 use Rattle.sizes_meet_rules.proofs.Meeting.{each_scoped, With_met, met_wider, Flat_wanted, Data_wanted, Lambda_wanted, Lambda_typed, As_alone, Meets, inner_of}
 use Rattle.sizes_meet_rules.proofs.Noting.{Placed, placed_order}
-use Rattle.sizes_meet_rules.proofs.Parts.{spine, given_inner, Given_meets, given_wider, Function_meets, given_in, Lambda_waits, All_given, One_waits, All_parts, Later_part, one_fit, all_fit}
+use Rattle.sizes_meet_rules.proofs.Parts.{spine, given_inner, given_meets_as, Given_meets, given_wider, Function_meets, given_in, Lambda_waits, All_given, One_waits, All_parts, Later_part, one_fit, all_fit}
 
 -- ---- functions of these parameters
 
@@ -75,7 +75,7 @@ own_state st (Ok m) = m.state
 own_state st (Err r) = st
 
 abbrev pub with_size : Given → Size → Given
-with_size g t = record { node = g.node; value = g.value; named = g.named; size = t; term = g.term; width = g.width; waits = g.waits }
+with_size g t = record { node = g.node; value = g.value; named = g.named; size = t; own = t; term = g.term; width = g.width; waits = g.waits }
 
 with_argument : (g : Given) (t : Size) (f : Argument) → g.waits ≡ Some f → argument_by g.waits (with_size g t) ≡ argument_by g.waits g
 with_argument g t f e = ap (λ o. argument_by o (with_size g t)) e ∙ ap (λ o. argument_by o g) (sym e)
@@ -142,7 +142,7 @@ module _ (N : Names) (types : Sub) (home : ℕ → ℕ) (K : Kinds) (places : Ki
         let M = meets_alone m e in
         let known = lambda_argument g.term (types g.node) L.waits.is_lambda in
         given_wider N types home K places data_places In Vars scope (g.node + numbers g.term) hi now_sized A behind l
-        (record { value_is = inl L.value; inner = given_inner N types home K places data_places In Vars scope now_sized A behind (inner_of N types home In Vars scope g.term g.node (g.node + numbers g.term) A (own_size alone) behind M); noted = λ z. M.here; value_known = known })
+        (given_meets_as N types home K places data_places In Vars scope (g.node + numbers g.term) now_sized A behind refl (inl L.value) (given_inner N types home K places data_places In Vars scope now_sized A behind refl (inner_of N types home In Vars scope g.term g.node (g.node + numbers g.term) A (own_size alone) behind M)) (λ z. M.here) known)
 
     own_function : is_function (own_size alone) ≡ true
     own_function = by_answer alone refl

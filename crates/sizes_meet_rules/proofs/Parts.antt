@@ -83,10 +83,10 @@ module _ (N : Names) (types : Sub) (home : ℕ → ℕ) (K : Kinds) (places : Ki
       pub typed : erased g.size ≡ types g.node
       pub kept : (n : ℕ) → (n < g.node) ⊎ (g.node + numbers g.term ≤ n) → behind.nodes n ≡ st.nodes n
       pub dropped : (n : ℕ) → (n < g.node) ⊎ (g.node + numbers g.term ≤ n) → behind.dropped n ≡ st.dropped n
-      pub rules : (s : ℕ → Size) (G : Context) → Judged In Vars scope G → s g.node ≡ g.size → ((n : ℕ) → g.node < n → n < g.node + numbers g.term → s n ≡ behind.nodes n) → Sized N types s home g.term g.node G
+      pub rules : (s : ℕ → Size) (G : Context) → Judged In Vars scope G → s g.node ≡ g.own → ((n : ℕ) → g.node < n → n < g.node + numbers g.term → s n ≡ behind.nodes n) → Sized N types s home g.term g.node G
 
-    pub given_inner : (g : Given) (st behind : State) → Inner N types home In Vars scope g.term g.node (g.node + numbers g.term) st g.size behind → Given_inner (g.node + numbers g.term) g st behind
-    given_inner g st behind I = record { says = I.says; typed = I.typed; kept = I.kept; dropped = I.dropped; rules = I.rules }
+    pub given_inner : (g : Given) (st behind : State) → g.own ≡ g.size → Inner N types home In Vars scope g.term g.node (g.node + numbers g.term) st g.size behind → Given_inner (g.node + numbers g.term) g st behind
+    given_inner g st behind same I = record { says = I.says; typed = I.typed; kept = I.kept; dropped = I.dropped; rules = λ s G J e a. I.rules s G J (e ∙ same) a }
 
     -- the value of a name or a constant is no slot
     no_slot_named : (e : FlatTerm) (d : Free) → named_value e ≡ Some d → is_slot d ≡ false
@@ -108,8 +108,26 @@ module _ (N : Names) (types : Sub) (home : ℕ → ℕ) (K : Kinds) (places : Ki
     pub record Given_meets (upto : ℕ) (g : Given) (st behind : State) : Type 0 where
       pub value_is : (g.value ≡ None) ⊎ (g.value ≡ named_value g.term)
       pub inner : Given_inner upto g st behind
-      pub noted : g.named ≡ false → behind.nodes g.node ≡ g.size
+      pub noted : g.named ≡ false → behind.nodes g.node ≡ g.own
       pub value_known : Value_known N types home K places data_places In Vars scope g.term (types g.node)
+      -- its node may have another sized type than is wanted, if it is a function and no name
+      pub suits : Suits g.own g.size
+      pub own_sizes : Each (Scoped (With_met In g.node upto)) 0 g.own
+      pub own_named : g.named ≡ true → g.own ≡ g.size
+      pub own_number : is_i64_size g.size ≡ true → g.own ≡ g.size
+
+    -- one whose node has that which is wanted
+    pub given_meets_as : (upto : ℕ) (g : Given) (st behind : State) → g.own ≡ g.size → (g.value ≡ None) ⊎ (g.value ≡ named_value g.term) → Given_inner upto g st behind → (g.named ≡ false → behind.nodes g.node ≡ g.size) → Value_known N types home K places data_places In Vars scope g.term (types g.node) → Given_meets upto g st behind
+    given_meets_as upto g st behind same value inner noted known = record {
+      value_is = value;
+      inner = inner;
+      noted = λ e. noted e ∙ sym same;
+      value_known = known;
+      suits = subst (λ x. Suits x g.size) (sym same) suits_same;
+      own_sizes = subst (Each (Scoped (With_met In g.node upto)) 0) (sym same) inner.says.sizes;
+      own_named = λ e. same;
+      own_number = λ e. same;
+    }
 
     pub given_wider : (upto hi : ℕ) (g : Given) (st behind : State) → upto ≤ hi → Given_meets upto g st behind → Given_meets hi g st behind
     given_wider upto hi g st behind l M = record {
@@ -117,6 +135,10 @@ module _ (N : Names) (types : Sub) (home : ℕ → ℕ) (K : Kinds) (places : Ki
       inner = record { says = record { sizes = each_scoped (With_met In g.node upto) (With_met In g.node hi) wide g.size 0 M.inner.says.sizes; variables = M.inner.says.variables; formed = M.inner.says.formed }; typed = M.inner.typed; kept = M.inner.kept; dropped = M.inner.dropped; rules = M.inner.rules };
       noted = M.noted;
       value_known = M.value_known;
+      suits = M.suits;
+      own_sizes = each_scoped (With_met In g.node upto) (With_met In g.node hi) wide g.own 0 M.own_sizes;
+      own_named = M.own_named;
+      own_number = M.own_number;
     }
       where
         wide : (d : Free) → With_met In g.node upto d → With_met In g.node hi d
@@ -298,7 +320,7 @@ module _ (N : Names) (types : Sub) (home : ℕ → ℕ) (K : Kinds) (places : Ki
         all_plain [] st A from l p h = tt
         all_plain (g ∷ gs) st A from l p h =
             let M = part_meets hi A0 B g st h.0 h.1.0 (let y = p.0 in let z = placed_order gs (from + numbers g.term) hi p.1 in omega (arith, y, z)) in
-            ((M.inner.says.formed, given_in hi g (first_state hi A0 B g st h.0 h.1.0) (last_state hi A0 B g st h.0 h.1.0) M (let y = p.0 in omega (arith, y, l)) (omega arith), value_settled g M.value_is), all_plain gs h.0 A (from + numbers g.term) (omega (arith, l)) p.1 h.1.1)
+            ((M.inner.says.formed, given_in hi g (first_state hi A0 B g st h.0 h.1.0) (last_state hi A0 B g st h.0 h.1.0) M (let y = p.0 in omega (arith, y, l)) (omega arith), value_settled g M.value_is, M.own_named), all_plain gs h.0 A (from + numbers g.term) (omega (arith, l)) p.1 h.1.1)
 
       pub one_fit : (g : Given) (st mid : State) → Data_meets g st mid → first ≤ g.node → g.node + numbers g.term ≤ hi → Data_given P Vars K types g
       one_fit g st mid m l l' = (((param_data N types home K places g.size g.node data_places m.1.0 m.0.inner.says.formed m.0.inner.typed, m.0.inner.says.formed, given_in (g.node + numbers g.term) g st mid m.0 l l', m.0.inner.says.variables), m.1.1), (m.0.inner.typed, let k = m.1.0 in omega (arith, data_places, k)))
@@ -383,7 +405,7 @@ module _ (N : Names) (types : Sub) (home : ℕ → ℕ) (K : Kinds) (places : Ki
               by_order (inr x) (inl y) = subst (With_met In at hi) (sym (at_high i y)) (inr (omega arith, omega (arith, a2, a3)))
               by_order (inr x) (inr y) = subst (λ m. With_met In at hi (inside m)) (let z : k ≡ i = omega (arith, x, y) in z) (subst (With_met In at hi) (sym at_value) (value_in g.term M.value_known (number_value g) number_given))
 
-          module _ (s : ℕ → Size) (G : Context) (J : Judged In Vars scope G) (at_node : s g.node ≡ g.size) where
+          module _ (s : ℕ → Size) (G : Context) (J : Judged In Vars scope G) (at_node : s g.node ≡ g.own) where
             value_given : (e : FlatTerm) → Value_known N types home K places data_places In Vars scope e (types g.node) → (v : Option Free) → Given_as e v → Is_value N types s home e g.node G (value_now v) ⊎ (value_now v ≡ Unknown at (next + k))
             value_given e w v (inl z) = inr (ap value_now z)
             value_given (Use (ref.Bound x) p i) w v (inr z) = let n = w z.1 in inl (ap value_now z.0, by_form n (number_size n.size n.says.formed (number_name In Vars types home scope x.0 n)) n.is_general refl)
@@ -394,7 +416,7 @@ module _ (N : Names) (types : Sub) (home : ℕ → ℕ) (K : Kinds) (places : Ki
             value_given (Strict (Integer c i) mark no_term) w v (inr z) = by_fit z.1 (fits_i64 c) refl z.0
               where
                 by_fit : types g.node ≡ i64_ty → (b : Bool) → fits_i64 c ≡ b → v ≡ cond b (Some (Const c)) None → Is_value N types s home (Strict (Integer c i) mark no_term) g.node G (value_now v) ⊎ (value_now v ≡ Unknown at (next + k))
-                by_fit i64 true fits q = inl (ap value_now q, at_node ∙ number_size g.size M.inner.says.formed (M.inner.typed ∙ i64), ltb-true c (2 ^ 63) fits)
+                by_fit i64 true fits q = inl (ap value_now q, at_node ∙ M.own_number (number_typed g.size M.inner.says.formed ∙ ap is_i64_ty (M.inner.typed ∙ i64)) ∙ number_size g.size M.inner.says.formed (M.inner.typed ∙ i64), ltb-true c (2 ^ 63) fits)
                 by_fit i64 false fits q = inr (ap value_now q)
             value_given e w v (inr z) = inr (ap value_now z.0)
 
@@ -503,7 +525,7 @@ module _ (N : Names) (types : Sub) (home : ℕ → ℕ) (K : Kinds) (places : Ki
           opened_as δ f t = opened_filled (λ i. closed_to (f i)) (ends δ) t ∙ filled_same (pushed (λ i. closed_to (f i)) (ends δ)) (ends (pushed f δ)) (pushed_as closed_to f δ) t 0
 
           one_rule : (gs : List Given) (g : Given) (δ : Frames) (ok : ℕ → ℕ → Type 0) (k : ℕ) (p r : Size) (next : ℕ) (f : FlatTerm) (st behind : State) → Given_meets hi g st behind → Formed (Fun k p r) → Each (Okay P ok) 0 (Fun k p r) → Frames_in (suc (here lo gs)) ok δ
-              → here lo gs < first → first ≤ g.node → g.node + numbers g.term ≤ hi → ((i : ℕ) → i < k → τ.maker (next + i) ≡ here lo gs) → g.node ≡ 1 + here lo gs + numbers f → s (suc (here lo gs)) ≡ filled (ends δ) 0 (Fun k p r) → filled (ends (pushed (frame (here lo gs) next k (number_value g)) δ)) 0 p ≡ g.size → s g.node ≡ g.size
+              → here lo gs < first → first ≤ g.node → g.node + numbers g.term ≤ hi → ((i : ℕ) → i < k → τ.maker (next + i) ≡ here lo gs) → g.node ≡ 1 + here lo gs + numbers f → s (suc (here lo gs)) ≡ filled (ends δ) 0 (Fun k p r) → filled (ends (pushed (frame (here lo gs) next k (number_value g)) δ)) 0 p ≡ g.size → s g.node ≡ g.own
               → ((x : ℕ) → g.node < x → x < g.node + numbers g.term → s x ≡ behind.nodes x) → s (here lo gs) ≡ filled (ends (pushed (frame (here lo gs) next k (number_value g)) δ)) 0 r → Sized N types s home f (1 + here lo gs) G → Sized N types s home (Apply f g.term) (here lo gs) G
           unfolding replaced Formed
           one_rule gs g δ ok k p r next f st behind M fm e fs l l1 l2 maker mid function_here fits argument_here inner result_here rules = (
@@ -518,13 +540,13 @@ module _ (N : Names) (types : Sub) (home : ℕ → ℕ) (K : Kinds) (places : Ki
                   (filled_says P (With_met In (suc (here lo gs)) hi) (λ d i. met_later (suc (here lo gs)) d i (omega (arith, l))) (ends δ) ok fs (Fun k p r) 0 e));
               inside = λ i. closed_to (frame (here lo gs) next k (number_value g) i);
               low = (formed_replaced (fill (ends δ)) (fill_keeps (ends δ)) (fill_back (ends δ)) (Fun k p r) 0 fm).2;
-              argument = subst (λ w. Suits (s g.node) w) (argument_here ∙ sym fits ∙ sym (opened_as δ (frame (here lo gs) next k (number_value g)) p)) suits_same;
+              argument = subst (Suits (s g.node)) (sym fits ∙ sym (opened_as δ (frame (here lo gs) next k (number_value g)) p)) (subst (λ w. Suits w g.size) (sym argument_here) M.suits);
               base = next;
               known = λ i x. known_low (here lo gs) next k g st behind M (omega arith) l room maker s G J argument_here i x;
               value = subst (λ d. Is_value N types s home g.term g.node G d ⊎ (d ≡ Unknown (here lo gs) (next + k))) (sym (at_value (here lo gs) next k g st behind M (omega arith) l room maker)) (value_given (here lo gs) next k g st behind M (omega arith) l room maker s G J argument_here g.term M.value_known (number_value g) (number_given (here lo gs) next k g st behind M (omega arith) l room maker));
               new = λ i x. at_high (here lo gs) next k g st behind M (omega arith) l room maker i x;
               result = inl (result_here ∙ sym (opened_as δ (frame (here lo gs) next k (number_value g)) r));
-              order = inl (subst (λ w. Away N types s home (1 + here lo gs) g.node w) (sym argument_here) (away_of N types home (With_met In g.node hi) Vars s (1 + here lo gs) g.node g.size before M.inner.says));
+              order = inl (subst (λ w. Away N types s home (1 + here lo gs) g.node w) (sym argument_here) (each_scoped (With_met In g.node hi) (λ d. Outside N types s home (1 + here lo gs) g.node d) before g.own 0 M.own_sizes));
             }),
           )
             where

@@ -35,7 +35,7 @@ use Rattle.sizes_meet_rules.proofs.Heads.{a_name, a_primitive, Head, Primitive_h
 use Rattle.sizes_meet_rules.proofs.Meeting.{then_ok, same_ok, elsewhere_narrower, Part_meets, Whole_meets, Is_applied, Waits, Waits_wide}
 use Rattle.sizes_meet_rules.proofs.Naming.{no_function}
 use Rattle.sizes_meet_rules.proofs.Noting.{Placed}
-use Rattle.sizes_meet_rules.proofs.Parts.{gives_lambda, spine, spine_snoc, arguments_snoc, length_snoc, arrows_snoc, placed_snoc, Data_meets, given_inner, Function_meets, Lambda_waits, Lambda_wide, Named_wide, All_given, One_waits, First_waits, given_snoc, waits_snoc, function_snoc, data_snoc, first_snoc}
+use Rattle.sizes_meet_rules.proofs.Parts.{gives_lambda, spine, spine_snoc, arguments_snoc, length_snoc, arrows_snoc, placed_snoc, Data_meets, given_inner, given_meets_as, Function_meets, Lambda_waits, Lambda_wide, Named_wide, All_given, One_waits, First_waits, given_snoc, waits_snoc, function_snoc, data_snoc, first_snoc}
 use Rattle.sizes_meet_rules.proofs.Primitives.{closed_is, closed_typed, closed_says}
 use Rattle.sizes_meet_rules.proofs.Showing.{numbers_some, Law_of, Wide_law}
 use Rattle.sizes_meet_rules.proofs.Using.{used_as, used_closed, use_is, suits_rules}
@@ -294,10 +294,10 @@ module _ (N : Names) (types : Sub) (home : ℕ → ℕ) (K : Kinds) (places : Ki
         A = argument_meets N types home K places data_places In Vars scope e (1 + lo + numbers f) (1 + lo + numbers f + numbers e) R.function.state R.part.result R.part.state R.argument (let n = some in omega (arith, n)) pd X R.argument_is
 
         g : Given
-        g = record { node = 1 + lo + numbers f; value = A.value; named = A.named; size = A.size; term = e; width = 0; waits = None }
+        g = record { node = 1 + lo + numbers f; value = A.value; named = A.named; size = A.size; own = A.size; term = e; width = 0; waits = None }
 
         M : Data_meets N types home K places data_places In Vars scope g R.function.state R.argument.state
-        M = (record { value_is = A.value_is; inner = given_inner N types home K places data_places In Vars scope g R.function.state R.argument.state A.inner; noted = A.here; value_known = value_is_known N types home K places data_places e (1 + lo + numbers f) In Vars scope T known t.0.1 }, (pd, refl))
+        M = (given_meets_as N types home K places data_places In Vars scope (g.node + numbers g.term) g R.function.state R.argument.state refl A.value_is (given_inner N types home K places data_places In Vars scope g R.function.state R.argument.state refl A.inner) A.here (value_is_known N types home K places data_places e (1 + lo + numbers f) In Vars scope T known t.0.1), (pd, refl))
 
         by_meet : Spine_meets lambda In Vars scope S.given st R.function.state (Primitive_head N types home K In Vars scope S.term S.size S.regular S.type) → Spine_meets lambda In Vars scope (S.given ++ g ∷ []) st R.argument.state (Primitive_head N types home K In Vars scope S.term S.size S.regular S.type)
         by_meet (inl h) = inl (given_snoc N types home K places data_places In Vars scope S.given g st R.function.state R.argument.state h M)
@@ -328,7 +328,7 @@ module _ (N : Names) (types : Sub) (home : ℕ → ℕ) (K : Kinds) (places : Ki
             A = lambda_argument e (1 + lo + numbers f) In Vars scope R.function.state R.part R.argument W R.argument_is
 
             g : Given
-            g = record { node = 1 + lo + numbers f; value = None; named = false; size = Built head.Tuple no_size; term = e; width = 0; waits = Some (Late (1 + lo + numbers f) A.waits.waiting) }
+            g = record { node = 1 + lo + numbers f; value = None; named = false; size = Built head.Tuple no_size; own = Built head.Tuple no_size; term = e; width = 0; waits = Some (Late (1 + lo + numbers f) A.waits.waiting) }
 
             L : Lambda_waits N types home K places data_places In Vars scope g
             L = record { st = R.part.state; part = R.part.result; waits = A.waits; waits_is = refl; value = refl; named = refl; flat = flat }
@@ -341,10 +341,10 @@ module _ (N : Names) (types : Sub) (home : ℕ → ℕ) (K : Kinds) (places : Ki
             A = early_meets N types home K places data_places In Vars scope e (1 + lo + numbers f) (1 + lo + numbers f + numbers e) R.function.state R.part.result R.part.state R.argument (let n = some in omega (arith, n)) W R.argument_is
 
             g : Given
-            g = record { node = 1 + lo + numbers f; value = A.value; named = A.named; size = A.size; term = e; width = 0; waits = None }
+            g = record { node = 1 + lo + numbers f; value = A.value; named = A.named; size = A.size; own = A.size; term = e; width = 0; waits = None }
 
             M : Function_meets N types home K places data_places In Vars scope g R.function.state R.argument.state
-            M = (record { value_is = A.value_is; inner = given_inner N types home K places data_places In Vars scope g R.function.state R.argument.state A.inner; noted = A.here; value_known = value_is_known N types home K places data_places e (1 + lo + numbers f) In Vars scope T known t.0.1 }, (flat, refl))
+            M = (given_meets_as N types home K places data_places In Vars scope (g.node + numbers g.term) g R.function.state R.argument.state refl A.value_is (given_inner N types home K places data_places In Vars scope g R.function.state R.argument.state refl A.inner) A.here (value_is_known N types home K places data_places e (1 + lo + numbers f) In Vars scope T known t.0.1), (flat, refl))
 
         by_part : Part_meets N types home In Vars scope e (1 + lo + numbers f) (1 + lo + numbers f + numbers e) R.function.state R.part.result R.part.state → Spine lambda In Vars scope (Apply f e) lo st d
         by_part (inl W) = early (inl W)
@@ -365,7 +365,7 @@ module _ (N : Names) (types : Sub) (home : ℕ → ℕ) (K : Kinds) (places : Ki
         A = wide_argument e (1 + lo + numbers f) In Vars scope R.function.state R.part R.argument W R.argument_is
 
         g : Given
-        g = record { node = 1 + lo + numbers f; value = None; named = false; size = Fun 0 (Built head.Tuple no_size) (Built head.Tuple no_size); term = e; width = 0; waits = Some (Late (1 + lo + numbers f) A.waits.waiting) }
+        g = record { node = 1 + lo + numbers f; value = None; named = false; size = Fun 0 (Built head.Tuple no_size) (Built head.Tuple no_size); own = Fun 0 (Built head.Tuple no_size) (Built head.Tuple no_size); term = e; width = 0; waits = Some (Late (1 + lo + numbers f) A.waits.waiting) }
 
         L : Lambda_wide N types home K places data_places In Vars scope g
         L = record { st = R.part.state; part = R.part.result; waits = A.waits; waits_is = refl; value = refl; named = refl; is_fun = refl; gives = gives }
@@ -402,7 +402,7 @@ module _ (N : Names) (types : Sub) (home : ℕ → ℕ) (K : Kinds) (places : Ki
         W = function_is A.size F.0 F.1.0 A.says.formed (A.typed ∙ F.1.1)
 
         g : Given
-        g = record { node = 1 + lo + numbers f; value = A.value; named = true; size = Fun 0 (Built head.Tuple no_size) (Built head.Tuple no_size); term = e; width = 0; waits = Some (Early (1 + lo + numbers f) A.value true A.size) }
+        g = record { node = 1 + lo + numbers f; value = A.value; named = true; size = Fun 0 (Built head.Tuple no_size) (Built head.Tuple no_size); own = Fun 0 (Built head.Tuple no_size) (Built head.Tuple no_size); term = e; width = 0; waits = Some (Early (1 + lo + numbers f) A.value true A.size) }
 
         L : Named_wide N types home K places data_places In Vars scope g
         L = record {
