@@ -1,5 +1,5 @@
 -- An application of a name or a primitive to all of its arguments meets the rules where these do.
-use Rattle.std.proofs.Common.{◌≡◌, ◌⊎◌, ℕ, suc, ◌+◌, ◌<◌, ◌≤◌, List, [], ◌∷◌, ◌++◌, Bool, true, false, Option, Some, None, Ok, refl, sym, ap, ◌∙◌, subst, arith, inl, inr}
+use Rattle.std.proofs.Common.{◌≡◌, ◌⊎◌, ℕ, suc, ◌+◌, ◌<◌, ◌≤◌, List, [], ◌∷◌, ◌++◌, Bool, true, false, cond, Option, Some, None, Ok, refl, sym, ap, ◌∙◌, subst, arith, inl, inr}
 use Rattle.std.specs.Prelude.{length}
 use Rattle.fut_flat.specs.declared.prim.Ref.TheVariants as ref
 use Rattle.fut_flat.specs.Numbers.{numbers}
@@ -10,7 +10,7 @@ use Rattle.fut_types.specs.Types.{Ty, fun_ty, Sub, Kinds, HasKind, rank, level}
 use Rattle.fut_typing.specs.Names.{Names}
 use Rattle.sized_types.specs.Sizes.{Free, Const, Name, Own, Unknown, Slot, Variable, Size, Hole, Open, Level, Built, Fun, erased, renamed}
 use Rattle.fut_sizes.specs.Agreeing.{Answer}
-use Rattle.fut_sizes.specs.Applications.{Later, Argument, Early, Part, Applied, uses}
+use Rattle.fut_sizes.specs.Applications.{Later, Argument, Part, Applied, is_function, uses}
 use Rattle.fut_sizes.specs.Primitives.{prim_size, is_regular}
 use Rattle.fut_sizes.specs.Functions.{is_slot, unknown_slot, closed}
 use Rattle.fut_sizes.specs.Matching.{Found, nothing_found, made_at, found_size, read, none_opened, dim_in, in_opened}
@@ -19,13 +19,13 @@ use Rattle.fut_sizes.specs.Scopes.{Scope, instance}
 use Rattle.fut_sizes.specs.Scoping.{Context}
 use Rattle.fut_sizes.specs.Sizing.{finished}
 use Rattle.fut_sizes.specs.Steps.{State, Done, at_node}
-use Rattle.fut_sizes.specs.Suiting.{Each, Scoped, Free_of, Suits}
-use Rattle.sizes_meet_rules.specs.Known.{Says, Judged, Elsewhere}
+use Rattle.fut_sizes.specs.Suiting.{Each, Scoped, Free_of, Suits, suits_same}
+use Rattle.sizes_meet_rules.specs.Known.{is_i64_size, Says, Judged, Elsewhere}
 use Rattle.sizes_meet_rules.specs.Plain.{Is_call}
 use Rattle.sizes_meet_rules.proofs.Applying.{read_twice}
 use Rattle.sizes_meet_rules.proofs.Chains.{Given, Waiting_given, Named_given, Widths, arguments, Takes_all, widened, widened_widths, here, wants, laters, last_opened, last_size, last_goes, last_found, Matched_ran, last_slots, arrows_of, argument_by, All_plain, Reads, Kept, met_all}
 use Rattle.sizes_meet_rules.proofs.Frames.{Okay, none_meant, by_itself, Frames, not_filled, Framed, Settled_parameters, quantified_as}
-use Rattle.sizes_meet_rules.proofs.Meeting.{each_scoped, at_itself, at_another, With_met, met_settled}
+use Rattle.sizes_meet_rules.proofs.Meeting.{each_scoped, met_wider, at_itself, at_another, With_met, met_settled}
 use Rattle.sizes_meet_rules.proofs.Noting.{last_settled, within_avoids, Placed, placed_order, Avoids, Within, Right, noting, noting_other, noting_right, right_as, right_first, right_later, both_closed, both_avoid, both_within, both_distinct, laters_avoid, laters_within, laters_distinct, laters_closed, uses_avoid, uses_within, uses_distinct, uses_closed, met_noted_is, ended, Stages, Unnamed, stages}
 use Rattle.sizes_meet_rules.proofs.Reading.{found_settled}
 use Rattle.sizes_meet_rules.proofs.Replacing.{hole_as}
@@ -35,7 +35,7 @@ use Rattle.fut_sizes.specs.Levels.{levels_within}
 use Rattle.fut_sizes.specs.Applications.{Want, Met}
 use Rattle.sizes_meet_rules.proofs.Meeting.{Meets}
 use Rattle.sizes_meet_rules.proofs.Heads.{Head, Primitive_head, Resolved, resolved, primitive_lambda, primitive_named, primitive_wide}
-use Rattle.sizes_meet_rules.proofs.Parts.{spine, all_some, Data_meets, Function_meets, Lambda_waits, Lambda_wide, Named_wide, Given_meets, given_meets_as, All_given, One_waits, First_waits, All_parts, below, none_dropped, not_in_outside, Later_part, all_plain, all_fit, Last_says, last_says, Inner_nodes, nodes_of, stage_here, rules_all}
+use Rattle.sizes_meet_rules.proofs.Parts.{spine, all_some, Data_meets, Function_meets, Lambda_waits, Lambda_wide, Named_wide, Given_meets, All_given, One_waits, First_waits, All_parts, below, none_dropped, not_in_outside, Later_part, all_plain, all_fit, Last_says, last_says, Inner_nodes, nodes_of, stage_here, rules_all}
 use Rattle.sizes_meet_rules.proofs.Later.{own_state, with_size, sized_by, state_by, Went_by, sized_arguments, sized_arrows, sized_spine, sized_placed, sized_widths, data_parts, one_parts, none_later, one_later, one_given}
 use Rattle.sizes_meet_rules.proofs.Spines.{Spine, Spine_meets, Spine_law}
 use Rattle.sizes_meet_rules.proofs.Named.{named_found, same_named, named_size, named_is_function, Used_as}
@@ -113,8 +113,8 @@ module _ (N : Names) (types : Sub) (home : ℕ → ℕ) (K : Kinds) (places : Ki
 
     wide_first : (gs : List Given) (t : Size) (st A : State) → First_waits N types home K places data_places In Vars scope gs st A → First_waits N types home K places data_places In Vars scope (widened gs t) st A
     wide_first [] t st A h = absurd h
-    wide_first (g ∷ gs) (Fun k p r) st A (inl L, h) = (inl (record { st = L.st; part = L.part; waits = L.waits; waits_is = L.waits_is; value = L.value; named = L.named; is_fun = L.is_fun; gives = L.gives }), wide_given gs r st A h)
-    wide_first (g ∷ gs) (Fun k p r) st A (inr L, h) = (inr (record { own = L.own; waits_is = L.waits_is; named = L.named; own_fun = L.own_fun; value_is = L.value_is; value_known = L.value_known; says = L.says; typed = L.typed; arrows = L.arrows; of_function = L.of_function; rules = L.rules }), wide_given gs r st A h)
+    wide_first (g ∷ gs) (Fun k p r) st A (inl (L, h)) = inl (record { st = L.st; part = L.part; waits = L.waits; waits_is = L.waits_is; value = L.value; named = L.named; is_fun = L.is_fun; gives = L.gives }, wide_given gs r st A h)
+    wide_first (g ∷ gs) (Fun k p r) st A (inr (mid, (L, h))) = inr (mid, (record { own = L.own; waits_is = L.waits_is; own_fun = L.own_fun; value_is = L.value_is; value_known = L.value_known; says = L.says; typed = L.typed; arrows = L.arrows; of_function = L.of_function; kept = L.kept; dropped = L.dropped; noted = L.noted; rules = L.rules }, wide_given gs r mid A h))
     wide_first (g ∷ gs) (Hole v) st A h = h
     wide_first (g ∷ gs) (Open m v u) st A h = h
     wide_first (g ∷ gs) (Level d t) st A h = h
@@ -521,11 +521,11 @@ module _ (N : Names) (types : Sub) (home : ℕ → ℕ) (K : Kinds) (places : Ki
         one_first : Meets N types home In Vars scope f lo end_here st u.result u.state
         one_first = meets_there (first_now ∷ gs) same_arguments same_arrows same_spine same_placed tt (λ s. Went × (s ≡ behind)) R
             (subst (λ B. All_parts N types home K places data_places In Vars scope end_here d.state B (first_now ∷ gs) st d.state) (sym R.ends.1)
-            (st, (inr (wide_meets N types home K places data_places In Vars scope lo from_there end_here E low g L node_is first_room answer d.state R.ends.0, refl), data_parts N types home K places data_places In Vars scope end_here behind d.state gs st d.state h)))
+            (st, (inr (inr (wide_meets N types home K places data_places In Vars scope lo from_there end_here E low g L node_is first_room answer d.state R.ends.0, refl)), data_parts N types home K places data_places In Vars scope end_here behind d.state gs st d.state h)))
             (subst (λ B. Later_part N types home K places data_places In Vars scope d.state B (first_now ∷ gs)) (sym R.ends.1) (wide_later N types home K places data_places In Vars scope lo from_there end_here E low g L node_is first_room answer d.state R.ends.0 gs))
 
-      -- and a name before data, which is used at the sizes that are wanted of it
-      module _ (g : Given) (gs : List Given) (z : g ∷ gs ≡ wide) (L : Named_wide N types home K places data_places In Vars scope g) (h : All_given N types home K places data_places In Vars scope gs st d.state) (H : Primitive_head N types home K In Vars scope S.term S.size S.regular S.type) where
+      -- and a name or an application before data, which is used at the sizes that are wanted of it
+      module _ (g : Given) (gs : List Given) (z : g ∷ gs ≡ wide) (mid : State) (L : Named_wide N types home K places data_places In Vars scope g st mid) (h : All_given N types home K places data_places In Vars scope gs mid d.state) (H : Primitive_head N types home K In Vars scope S.term S.size S.regular S.type) where
         abbrev types_here : Variable → Ty
         types_here = types_there H.node H.primitive S.type H.given H.typed
 
@@ -535,8 +535,11 @@ module _ (N : Names) (types : Sub) (home : ℕ → ℕ) (K : Kinds) (places : Ki
         abbrev named_answer : Answer Found
         named_answer = named_found lo (is_regular H.primitive) g L.own gs named_opened
 
+        abbrev size_now : Size
+        size_now = named_size H.node types_here (prim_size H.primitive) named_answer
+
         abbrev named_now : Given
-        named_now = with_size g (named_size H.node types_here (prim_size H.primitive) named_answer)
+        named_now = record { node = g.node; value = g.value; named = g.named; size = size_now; own = cond g.named size_now L.own; term = g.term; width = g.width; waits = g.waits }
 
         named_arguments : arguments (named_now ∷ gs) ≡ arguments wide
         named_arguments = ap (λ a. a ∷ arguments gs) (ap (λ o. argument_by o named_now) L.waits_is ∙ ap (λ o. argument_by o g) (sym L.waits_is)) ∙ ap arguments z
@@ -566,7 +569,7 @@ module _ (N : Names) (types : Sub) (home : ℕ → ℕ) (K : Kinds) (places : Ki
         In_all x = With_met In begins end_here x
 
         data_behind : All_data_given In_all Vars K types gs
-        data_behind = all_fit N types home K places data_places In Vars scope lo begins end_here E (omega arith) gs st d.state (begins + numbers g.term) (omega arith) placed_there_now.1 h
+        data_behind = all_fit N types home K places data_places In Vars scope lo begins end_here E (omega arith) gs mid d.state (begins + numbers g.term) (omega arith) placed_there_now.1 h
 
         -- none of its sizes is made at a node before its arguments
         fresh_at : (n : ℕ) → lo ≤ n → n < begins → (x : Free) → In_all x → Free_of n x
@@ -583,7 +586,7 @@ module _ (N : Names) (types : Sub) (home : ℕ → ℕ) (K : Kinds) (places : Ki
         term_there = S.some
 
         abbrev given_named : Named_given named_now
-        given_named = record { own = L.own; waits = L.waits_is ∙ ap (λ b. Some (Early g.node g.value b L.own)) (sym L.named); own_fun = L.own_fun; is_fun = named_is_function H.node types_here (prim_size H.primitive) named_answer }
+        given_named = record { own = L.own; waits = L.waits_is; own_fun = L.own_fun; is_fun = named_is_function H.node types_here (prim_size H.primitive) named_answer }
 
         named_width : (t : Size) → Widths (g ∷ gs) t → Widths (named_now ∷ gs) t
         named_width (Fun k p r) w = w
@@ -592,32 +595,69 @@ module _ (N : Names) (types : Sub) (home : ℕ → ℕ) (K : Kinds) (places : Ki
         named_width (Level e t) w = tt
         named_width (Built b ts) w = tt
 
+        named_room : g.node + numbers g.term ≤ end_here
+        named_room = let y = begins_at in let q = placed_order gs (begins + numbers g.term) end_here placed_there_now.1 in omega (arith, y, q)
+
+        own_later : (x : Free) → With_met In g.node (g.node + numbers g.term) x → With_met In g.node end_here x
+        own_later x (inl i) = inl i
+        own_later x (inr i) = inr (met_wider g.node (g.node + numbers g.term) g.node end_here (omega arith) named_room x i)
+
+        own_in : (x : Free) → With_met In g.node (g.node + numbers g.term) x → In_all x
+        own_in x i = subst (λ m. With_met In m end_here x) (sym begins_at) (own_later x i)
+
         R_named : Resolved N types home K In Vars scope S.term S.size S.regular S.type In_all (λ x i. inl i) (settled_here (named_now ∷ gs) named_arguments named_arrows named_spine named_placed tt) lo (named_now ∷ gs) d.state u (λ s. Used_as In_all Vars L.own named_now.size × (s ≡ d.state))
         R_named = primitive_named N types home K In Vars scope S.term S.size S.regular S.type In_all (λ x i. inl i) (settled_here (named_now ∷ gs) named_arguments named_arrows named_spine named_placed tt) lo named_now gs d.state u (types lo) (arrows_there (named_now ∷ gs) named_arguments named_arrows named_spine named_placed tt)
             (named_width S.size (subst (λ ws. Widths ws S.size) (sym z) (widened_widths S.given S.size))) (ran_there (named_now ∷ gs) named_arguments named_arrows named_spine named_placed tt) H (data_kind H)
-            given_named L.of_function.0 L.of_function.1.0 L.of_function.1.1 data_behind (record { formed = L.says.formed; sizes = each_scoped In In_all (λ x i. inl i) L.own 0 L.says.sizes; variables = L.says.variables; arrows = L.arrows }) L.typed
-            (ap (named_size H.node types_here (prim_size H.primitive)) (sym (same_named lo (is_regular H.primitive) g (named_size H.node types_here (prim_size H.primitive) named_answer) (named_size H.node types_here (prim_size H.primitive) named_answer) L.own gs named_opened)))
+            given_named L.of_function.0 L.of_function.1.0 L.of_function.1.1 data_behind (record { formed = L.says.formed; sizes = each_scoped (λ x. With_met In g.node (g.node + numbers g.term) x) In_all own_in L.own 0 L.says.sizes; variables = L.says.variables; arrows = L.arrows }) L.typed
+            (ap (named_size H.node types_here (prim_size H.primitive)) (sym (same_named lo (is_regular H.primitive) g size_now (cond g.named size_now L.own) L.own gs named_opened)))
             (λ b w. fresh_at (here lo gs) (omega arith) (let n = term_there in omega (arith, n)) (Unknown (here lo gs) b) w refl) lo (suc lo) (λ e. omega (arith, e)) (λ x w. (fresh_at lo (omega arith) (omega arith) x w, fresh_at (suc lo) (omega arith) (let n = term_there in omega (arith, n)) x w))
 
-        named_meets : Used_as In_all Vars L.own named_now.size → Given_meets N types home K places data_places In Vars scope end_here named_now d.state d.state
-        named_meets U = given_meets_as N types home K places data_places In Vars scope end_here named_now d.state d.state refl L.value_is (record {
-          says = record { sizes = subst (λ m. Each (Scoped (λ x. With_met In m end_here x)) 0 named_now.size) begins_at U.says.sizes; variables = U.says.variables; formed = U.says.formed };
-          typed = U.typed ∙ L.typed;
-          kept = λ n o. refl;
-          dropped = λ n o. refl;
-          rules = λ s G J e a. L.rules s G J (subst (Suits L.own) (sym e) U.suits);
-        }) (λ e. absurd (let y : true ≡ false = sym L.named ∙ e in cc)) L.value_known
+        no_number : (t : Size) → is_function t ≡ true → is_i64_size t ≡ true → ⊥
+        no_number (Fun k p r) a b = let y : false ≡ true = b in cc
+        no_number (Hole v) a b = let y : false ≡ true = a in cc
+        no_number (Open m v x) a b = let y : false ≡ true = b in cc
+        no_number (Level e t) a b = let y : false ≡ true = b in cc
+        no_number (Built k ts) a b = let y : false ≡ true = a in cc
+
+        named_meets : Used_as In_all Vars L.own named_now.size → Given_meets N types home K places data_places In Vars scope end_here named_now st mid
+        named_meets U = record {
+          value_is = L.value_is;
+          inner = record {
+            says = record { sizes = sizes_there; variables = U.says.variables; formed = U.says.formed };
+            typed = U.typed ∙ L.typed;
+            kept = L.kept;
+            dropped = L.dropped;
+            rules = λ s G J e a. L.rules s G J size_now U.suits e a;
+          };
+          noted = λ e. L.noted e ∙ ap (λ b. cond b size_now L.own) (sym e);
+          value_known = L.value_known;
+          suits = node_suits g.named;
+          own_sizes = node_sizes g.named;
+          own_named = λ e. ap (λ b. cond b size_now L.own) e;
+          own_number = λ e. absurd (no_number size_now (named_is_function H.node types_here (prim_size H.primitive) named_answer) e);
+        }
+          where
+            sizes_there : Each (Scoped (λ x. With_met In g.node end_here x)) 0 size_now
+            sizes_there = subst (λ m. Each (Scoped (λ x. With_met In m end_here x)) 0 size_now) begins_at U.says.sizes
+
+            node_suits : (b : Bool) → Suits (cond b size_now L.own) size_now
+            node_suits true = suits_same
+            node_suits false = U.suits
+
+            node_sizes : (b : Bool) → Each (Scoped (λ x. With_met In g.node end_here x)) 0 (cond b size_now L.own)
+            node_sizes true = sizes_there
+            node_sizes false = each_scoped (λ x. With_met In g.node (g.node + numbers g.term) x) (λ x. With_met In g.node end_here x) own_later L.own 0 L.says.sizes
 
         one_named : Meets N types home In Vars scope f lo end_here st u.result u.state
         one_named = meets_there (named_now ∷ gs) named_arguments named_arrows named_spine named_placed tt (λ s. Used_as In_all Vars L.own named_now.size × (s ≡ d.state)) R_named
             (subst (λ B. All_parts N types home K places data_places In Vars scope end_here d.state B (named_now ∷ gs) st d.state) (sym R_named.ends.1)
-            (st, (inr (named_meets R_named.ends.0, refl), data_parts N types home K places data_places In Vars scope end_here d.state d.state gs st d.state h)))
+            (mid, (inr (inl (named_meets R_named.ends.0, (L.own, L.waits_is))), data_parts N types home K places data_places In Vars scope end_here d.state d.state gs mid d.state h)))
             (subst (λ B. Later_part N types home K places data_places In Vars scope d.state B (named_now ∷ gs)) (sym R_named.ends.1) (none_later N types home K places data_places In Vars scope d.state (named_now ∷ gs)))
 
       first_meets : (ws : List Given) → ws ≡ wide → First_waits N types home K places data_places In Vars scope ws st d.state → Primitive_head N types home K In Vars scope S.term S.size S.regular S.type → Meets N types home In Vars scope f lo end_here st u.result u.state
       first_meets [] z h H = absurd h
-      first_meets (g ∷ gs) z (inl L, h) H = one_first g gs z L h H
-      first_meets (g ∷ gs) z (inr L, h) H = one_named g gs z L h H
+      first_meets (g ∷ gs) z (inl (L, h)) H = one_first g gs z L h H
+      first_meets (g ∷ gs) z (inr (mid, (L, h))) H = one_named g gs z mid L h H
 
       any_meets : Meets N types home In Vars scope f lo end_here st u.result u.state
       any_meets = by_kind S.meet

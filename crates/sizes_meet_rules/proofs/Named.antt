@@ -1,4 +1,4 @@
--- A function by its name as the first argument of a primitive: it is used at the sizes of data that are wanted of it.
+-- A name or an application as the first argument of a primitive: its function is used at the sizes of data that are wanted of it.
 use Rattle.std.proofs.Common.{◌≡◌, ◌⊎◌, ℕ, ◌≤◌, List, ◌∷◌, Bool, true, false, cond, Ok, Err, refl, sym, ap, ◌∙◌, subst, arith, inl, inr}
 use Rattle.fut_types.specs.declared.Head.TheVariants as head
 use Rattle.fut_types.specs.Types.{Ty, fun_ty, Sub, Kinds}

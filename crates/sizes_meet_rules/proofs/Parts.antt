@@ -28,7 +28,7 @@ use Rattle.sizes_meet_rules.proofs.Choosing.{Data_arrows}
 use Rattle.sizes_meet_rules.proofs.Entering.{param_data}
 use Rattle.sizes_meet_rules.proofs.Forming.{is_i64_ty, i64_ty_is, number_typed, formed_replaced}
 use Rattle.sizes_meet_rules.proofs.Frames.{Okay, more, Frames, pushed, pushed_as, fill, fill_keeps, fill_back, filled, filled_same, opened_filled, filled_says}
-use Rattle.sizes_meet_rules.proofs.Meeting.{order, each_scoped, With_met, met_wider, met_outside, met_settled, elsewhere_narrower, away_of, Inner, Waits, Waits_wide}
+use Rattle.sizes_meet_rules.proofs.Meeting.{order, each_scoped, With_met, met_wider, met_outside, met_settled, elsewhere_narrower, Inner, Waits, Waits_wide}
 use Rattle.sizes_meet_rules.proofs.Naming.{number_name}
 use Rattle.sizes_meet_rules.proofs.Noting.{Placed, placed_order, All_some, Avoids, uses_avoid, one_use, close, ended, Stages, Unnamed}
 use Rattle.sizes_meet_rules.proofs.Operating.{number_is}
@@ -177,19 +177,22 @@ module _ (N : Names) (types : Sub) (home : ℕ → ℕ) (K : Kinds) (places : Ki
       pub is_fun : is_function g.size ≡ true
       pub gives : Gives_data types home K places g.term g.node
 
-    -- a function by its name, which is used at the sizes that are wanted of it
-    pub record Named_wide (g : Given) : Type 0 where
+    -- a name, or an application, which is used at the sizes that are wanted of it
+    pub record Named_wide (g : Given) (st mid : State) : Type 0 where
       pub own : Size
-      pub waits_is : g.waits ≡ Some (Early g.node g.value true own)
-      pub named : g.named ≡ true
+      pub waits_is : g.waits ≡ Some (Early g.node g.value g.named own)
       pub own_fun : is_function own ≡ true
       pub value_is : (g.value ≡ None) ⊎ (g.value ≡ named_value g.term)
       pub value_known : Value_known N types home K places data_places In Vars scope g.term (types g.node)
-      pub says : Says In Vars own
+      pub says : Says (With_met In g.node (g.node + numbers g.term)) Vars own
       pub typed : erased own ≡ types g.node
       pub arrows : Data_arrows own
       pub of_function : (a : Ty) × ((c : Ty) × (types g.node ≡ fun_ty a c))
-      pub rules : (s : ℕ → Size) (G : Context) → Judged In Vars scope G → Suits own (s g.node) → Sized N types s home g.term g.node G
+      pub kept : (n : ℕ) → (n < g.node) ⊎ (g.node + numbers g.term ≤ n) → mid.nodes n ≡ st.nodes n
+      pub dropped : (n : ℕ) → (n < g.node) ⊎ (g.node + numbers g.term ≤ n) → mid.dropped n ≡ st.dropped n
+      pub noted : g.named ≡ false → mid.nodes g.node ≡ own
+      -- the node of a name has the sized type that is wanted
+      pub rules : (s : ℕ → Size) (G : Context) → Judged In Vars scope G → (t : Size) → Suits own t → s g.node ≡ cond g.named t own → ((n : ℕ) → g.node < n → n < g.node + numbers g.term → s n ≡ mid.nodes n) → Sized N types s home g.term g.node G
 
     -- arguments of data that are sized one after another
     abbrev pub All_given : List Given → State → State → Type 0
@@ -201,10 +204,10 @@ module _ (N : Names) (types : Sub) (home : ℕ → ℕ) (K : Kinds) (places : Ki
     One_waits [] st A = ⊥
     One_waits (g ∷ gs) st A = ((mid : State) × (Data_meets g st mid × One_waits gs mid A)) ⊎ ((Lambda_waits g × All_given gs st A) ⊎ ((mid : State) × (Function_meets g st mid × All_given gs mid A)))
 
-    -- or such a lambda or name before data
+    -- or such a lambda, name or application before data
     abbrev pub First_waits : List Given → State → State → Type 0
     First_waits [] st A = ⊥
-    First_waits (g ∷ gs) st A = (Lambda_wide g ⊎ Named_wide g) × All_given gs st A
+    First_waits (g ∷ gs) st A = (Lambda_wide g × All_given gs st A) ⊎ ((mid : State) × (Named_wide g st mid × All_given gs mid A))
 
     pub given_snoc : (gs : List Given) (g : Given) (st mid A : State) → All_given gs st mid → Data_meets g mid A → All_given (gs ++ g ∷ []) st A
     given_snoc [] g st mid A h m = (A, (subst (λ x. Data_meets g x A) h m, refl))
@@ -226,13 +229,18 @@ module _ (N : Names) (types : Sub) (home : ℕ → ℕ) (K : Kinds) (places : Ki
 
     pub first_snoc : (gs : List Given) (g : Given) (st mid A : State) → First_waits gs st mid → Data_meets g mid A → First_waits (gs ++ g ∷ []) st A
     first_snoc [] g st mid A h m = absurd h
-    first_snoc (x ∷ gs) g st mid A h m = (h.0, given_snoc gs g st mid A h.1 m)
+    first_snoc (x ∷ gs) g st mid A (inl h) m = inl (h.0, given_snoc gs g st mid A h.1 m)
+    first_snoc (x ∷ gs) g st mid A (inr h) m = inr (h.0, (h.1.0, given_snoc gs g h.0 mid A h.1.1 m))
 
     -- ---- once all are sized: the lambda from the state behind data to the last one
 
+    -- what does not wait
+    abbrev pub Early_given : Given → Type 0
+    Early_given g = (t : Size) × (g.waits ≡ Some (Early g.node g.value g.named t))
+
     module _ (to : ℕ) (A0 B : State) where
       abbrev pub Part_there : Given → State → State → Type 0
-      Part_there g st mid = (Own_meets g st mid × (g.waits ≡ None)) ⊎ (Given_meets to g A0 B × (mid ≡ st))
+      Part_there g st mid = (Own_meets g st mid × (g.waits ≡ None)) ⊎ ((Given_meets to g st mid × Early_given g) ⊎ (Given_meets to g A0 B × (mid ≡ st)))
 
       abbrev pub All_parts : List Given → State → State → Type 0
       All_parts [] st A = A ≡ st
@@ -240,23 +248,28 @@ module _ (N : Names) (types : Sub) (home : ℕ → ℕ) (K : Kinds) (places : Ki
 
       abbrev first_state : (g : Given) (st mid : State) → Part_there g st mid → State
       first_state g st mid (inl m) = st
-      first_state g st mid (inr m) = A0
+      first_state g st mid (inr (inl m)) = st
+      first_state g st mid (inr (inr m)) = A0
 
       abbrev last_state : (g : Given) (st mid : State) → Part_there g st mid → State
       last_state g st mid (inl m) = mid
-      last_state g st mid (inr m) = B
+      last_state g st mid (inr (inl m)) = mid
+      last_state g st mid (inr (inr m)) = B
 
       pub part_meets : (g : Given) (st mid : State) (m : Part_there g st mid) → g.node + numbers g.term ≤ to → Given_meets to g (first_state g st mid m) (last_state g st mid m)
       part_meets g st mid (inl m) l = given_wider (g.node + numbers g.term) to g st mid l m.0
-      part_meets g st mid (inr m) l = m.0
+      part_meets g st mid (inr (inl m)) l = m.0
+      part_meets g st mid (inr (inr m)) l = m.0
 
       part_kept : (g : Given) (st mid : State) → Part_there g st mid → (x : ℕ) → (x < g.node) ⊎ (g.node + numbers g.term ≤ x) → mid.nodes x ≡ st.nodes x
       part_kept g st mid (inl m) x o = m.0.inner.kept x o
-      part_kept g st mid (inr m) x o = ap (λ (y : State). y.nodes x) m.1
+      part_kept g st mid (inr (inl m)) x o = m.0.inner.kept x o
+      part_kept g st mid (inr (inr m)) x o = ap (λ (y : State). y.nodes x) m.1
 
       part_dropped : (g : Given) (st mid : State) → Part_there g st mid → (x : ℕ) → (x < g.node) ⊎ (g.node + numbers g.term ≤ x) → mid.dropped x ≡ st.dropped x
       part_dropped g st mid (inl m) x o = m.0.inner.dropped x o
-      part_dropped g st mid (inr m) x o = ap (λ (y : State). y.dropped x) m.1
+      part_dropped g st mid (inr (inl m)) x o = m.0.inner.dropped x o
+      part_dropped g st mid (inr (inr m)) x o = ap (λ (y : State). y.dropped x) m.1
 
       pub below : (gs : List Given) (st A : State) (from hi : ℕ) → Placed gs from hi → All_parts gs st A → (x : ℕ) → (x < from) ⊎ (hi ≤ x) → A.nodes x ≡ st.nodes x
       below [] st A from hi p h x o = ap (λ (y : State). y.nodes x) h
@@ -285,7 +298,7 @@ module _ (N : Names) (types : Sub) (home : ℕ → ℕ) (K : Kinds) (places : Ki
     -- none of the nodes of a lambda
     abbrev pub Not_in : List Given → ℕ → Type 0
     Not_in [] x = Unit {0}
-    Not_in (g ∷ gs) x = (((x < g.node) ⊎ (g.node + numbers g.term ≤ x)) ⊎ (g.waits ≡ None)) × Not_in gs x
+    Not_in (g ∷ gs) x = (((x < g.node) ⊎ (g.node + numbers g.term ≤ x)) ⊎ ((g.waits ≡ None) ⊎ Early_given g)) × Not_in gs x
 
     pub not_in_outside : (gs : List Given) (from hi : ℕ) → Placed gs from hi → (x : ℕ) → (x < from) ⊎ (hi ≤ x) → Not_in gs x
     not_in_outside [] from hi p x o = tt
@@ -487,8 +500,9 @@ module _ (N : Names) (types : Sub) (home : ℕ → ℕ) (K : Kinds) (places : Ki
 
           -- one node of an argument, in the last state
           part_node : (g : Given) (gs : List Given) (st mid A : State) (from : ℕ) → g.node + numbers g.term ≡ from → Placed gs from hi → (m : Part_there hi A0 B g st mid) → All_parts hi A0 B gs mid A → ((x : ℕ) → g.node ≤ x → x < hi → Not_in (g ∷ gs) x → B.nodes x ≡ A.nodes x) → (x : ℕ) → g.node ≤ x → x < from → from ≤ hi → B.nodes x ≡ (last_state hi A0 B g st mid m).nodes x
-          part_node g gs st mid A from e pl (inl m) hs still x l l' r = still x l (omega (arith, l', r)) (inr m.1, not_in_outside gs from hi pl x (inl l')) ∙ below hi A0 B gs mid A from hi pl hs x (inl l')
-          part_node g gs st mid A from e pl (inr m) hs still x l l' r = refl
+          part_node g gs st mid A from e pl (inl m) hs still x l l' r = still x l (omega (arith, l', r)) (inr (inl m.1), not_in_outside gs from hi pl x (inl l')) ∙ below hi A0 B gs mid A from hi pl hs x (inl l')
+          part_node g gs st mid A from e pl (inr (inl m)) hs still x l l' r = still x l (omega (arith, l', r)) (inr (inr m.1), not_in_outside gs from hi pl x (inl l')) ∙ below hi A0 B gs mid A from hi pl hs x (inl l')
+          part_node g gs st mid A from e pl (inr (inr m)) hs still x l l' r = refl
 
           -- ---- nodes within arguments, and of those that are no names
           pub nodes_of : (gs : List Given) (φ : Opened) (t : Size) (σ : Found) (st A : State) (from : ℕ) → Takes_all gs t → Placed gs from hi → (h : All_parts hi A0 B gs st A) → ((x : ℕ) → from ≤ x → x < hi → Not_in gs x → B.nodes x ≡ A.nodes x) → ((x : ℕ) → from ≤ x → x < hi → Avoids N types τ x (uses (wants lo gs φ t σ)) → s x ≡ B.nodes x)

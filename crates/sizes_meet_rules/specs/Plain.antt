@@ -1,7 +1,7 @@
 -- The terms of which the law speaks: names, operations, functions of data, lets of data and of functions, branches, loops and
 -- applications of names and primitives to arguments of data; a primitive is applied to all that it takes, and one of them may be a
--- function whose parameters have no arrays, and which gives data, or the first of them a lambda or the name of a function that
--- takes and gives data; a name may be applied to fewer. Programs are of functions, numbers and
+-- function whose parameters have no arrays, and which gives data, or the first of them a lambda, a name or an application of
+-- this kind whose function takes and gives data; a name may be applied to fewer. Programs are of functions, numbers and
 -- other data whose sizes are told. A node that binds a name is the home of that name.
 use Rattle.std.specs.Prelude.{◌≡◌, ◌⊎◌, ℕ, ◌+◌, Bool, true, false, List, [], ◌∷◌, None}
 use Rattle.fut_scalar.specs.declared.place.BindId.{BindId}
@@ -223,9 +223,10 @@ module _ (types : Sub) (home : ℕ → ℕ) (K : Kinds) (places : Kind) where
   Data_function (Made head.Fun (more p (more r none))) = HasKind K places p × (HasKind K places r ⊎ Data_function r)
   Data_function t = ⊥
 
-  -- a name or a primitive of such a type
+  -- a name, a primitive or an application of such a type
   abbrev pub Used_function : FlatTerm → ℕ → Type 0
   Used_function (Use r at k) lo = Data_function (types lo)
+  Used_function (Apply f e) lo = Data_function (types lo)
   Used_function e lo = ⊥
 
   -- a lambda whose body is data
@@ -242,8 +243,8 @@ module _ (types : Sub) (home : ℕ → ℕ) (K : Kinds) (places : Kind) where
       Plain_term (Strict o mark ts) lo = Plain_operation N o (types lo) ts × Plain_terms ts (lo + own_numbers o)
       Plain_term (Lambda (pattern_and p ps) e) lo = Plain_patterns (pattern_and p ps) (1 + lo) × Plain_term e (1 + lo + all_pattern_numbers (pattern_and p ps))
       -- a function by its name, or a primitive, applied to arguments of data; a primitive may take one function of parameters without
-      -- arrays, which gives data, or as its first argument a lambda or a name of data, which gives data. The result is data, or
-      -- a function by its name has arguments left
+      -- arrays, which gives data, or as its first argument a lambda, a name or an application of data, which gives data. The result
+      -- is data, or a function by its name has arguments left
       Plain_term (Apply f e) lo = (HasKind K places (types lo) ⊎ Is_call f) × (((HasKind K places (types (1 + lo + numbers f)) × Plain_spine false f (1 + lo)) ⊎ (((false ≡ false) × Flat_function (types (1 + lo + numbers f)) × Plain_spine true f (1 + lo)) ⊎ ((false ≡ false) × (Gives_data e (1 + lo + numbers f) ⊎ Used_function e (1 + lo + numbers f)) × Is_primitive f))) × Plain_term e (1 + lo + numbers f))
       Plain_term (Let b v e) lo = Plain_let N b.is_function b.sizes b.parameters b.pattern v (1 + lo) × (composition b e ≡ None)
           × (HasKind K places (types (1 + lo + pattern_numbers b.pattern)) ⊎ (Is_lambda v × Is_bound b.pattern)) × Plain_term v (1 + lo + pattern_numbers b.pattern) × Plain_term e (1 + lo + pattern_numbers b.pattern + numbers v)

@@ -30,9 +30,9 @@
 //! `proofs/Primitives.antt`, `proofs/Heads.antt`). A lambda that a primitive takes is sized behind the other arguments, as by
 //! itself (`proofs/Wanting.antt`, `proofs/Later.antt`), and then has the type that is wanted (`proofs/Fitting.antt`,
 //! `proofs/Lambdas.antt`). One that takes arrays takes the sizes that are wanted of it (`proofs/Coming.antt`,
-//! `proofs/Wide.antt`), which are found behind its parameters (`proofs/Finding.antt`). A name that takes arrays is used at
-//! the sizes that are wanted of it (`proofs/Opening.antt`, `proofs/Choosing.antt`, `proofs/Named.antt`). Definitions stand in
-//! a row (`proofs/Defining.antt`).
+//! `proofs/Wide.antt`), which are found behind its parameters (`proofs/Finding.antt`). A name or an application that takes
+//! arrays is used at the sizes that are wanted of it (`proofs/Opening.antt`, `proofs/Choosing.antt`, `proofs/Named.antt`).
+//! Definitions stand in a row (`proofs/Defining.antt`).
 #![tactic(auto)]
 
 mod laws;
