@@ -6,7 +6,8 @@ use Rattle.fut_flat.specs.Numbers.{numbers}
 use Rattle.fut_flat.specs.Terms.{Use, Apply}
 use Rattle.fut_flat.specs.Erased.{FlatTerm}
 use Rattle.fut_types.specs.declared.Kind.{Kind}
-use Rattle.fut_types.specs.Types.{Ty, fun_ty, Sub, Kinds, HasKind, rank, level}
+use Rattle.fut_types.specs.declared.Head.TheVariants as head
+use Rattle.fut_types.specs.Types.{Ty, Made, none, more, fun_ty, Sub, Kinds, HasKind, rank, level}
 use Rattle.fut_typing.specs.Names.{Names}
 use Rattle.sized_types.specs.Sizes.{Free, Const, Name, Own, Unknown, Slot, Variable, Size, Hole, Open, Level, Built, Fun, erased, renamed}
 use Rattle.fut_sizes.specs.Agreeing.{Answer}
@@ -21,9 +22,10 @@ use Rattle.fut_sizes.specs.Sizing.{finished}
 use Rattle.fut_sizes.specs.Steps.{State, Done, at_node}
 use Rattle.fut_sizes.specs.Suiting.{Each, Scoped, Free_of, Suits, suits_same}
 use Rattle.sizes_meet_rules.specs.Known.{is_i64_size, Says, Judged, Elsewhere}
-use Rattle.sizes_meet_rules.specs.Plain.{Is_call}
+use Rattle.sizes_meet_rules.specs.Plain.{Reduces, Is_reduction, One_left, Is_call}
 use Rattle.sizes_meet_rules.proofs.Applying.{read_twice}
 use Rattle.sizes_meet_rules.proofs.Chains.{Given, Waiting_given, Named_given, Widths, arguments, Takes_all, widened, widened_widths, here, wants, laters, last_opened, last_size, last_goes, last_found, Matched_ran, last_slots, arrows_of, argument_by, All_plain, Reads, Kept, met_all}
+use Rattle.sizes_meet_rules.proofs.Filling.{Rest_fine}
 use Rattle.sizes_meet_rules.proofs.Frames.{Okay, none_meant, by_itself, Frames, not_filled, Framed, Settled_parameters, quantified_as}
 use Rattle.sizes_meet_rules.proofs.Meeting.{each_scoped, met_wider, at_itself, at_another, With_met, met_settled}
 use Rattle.sizes_meet_rules.proofs.Noting.{last_settled, within_avoids, Placed, placed_order, Avoids, Within, Right, noting, noting_other, noting_right, right_as, right_first, right_later, both_closed, both_avoid, both_within, both_distinct, laters_avoid, laters_within, laters_distinct, laters_closed, uses_avoid, uses_within, uses_distinct, uses_closed, met_noted_is, ended, Stages, Unnamed, stages}
@@ -40,7 +42,7 @@ use Rattle.sizes_meet_rules.proofs.Later.{own_state, with_size, sized_by, state_
 use Rattle.sizes_meet_rules.proofs.Spines.{Spine, Spine_meets, Spine_law}
 use Rattle.sizes_meet_rules.proofs.Named.{named_found, same_named, named_size, named_is_function, Used_as}
 use Rattle.sizes_meet_rules.proofs.Lambdas.{Wants_formed, wanted_of, found_behind, Lambda_result, All_data_given}
-use Rattle.sizes_meet_rules.proofs.Primitives.{types_there}
+use Rattle.sizes_meet_rules.proofs.Primitives.{types_there, prim_fine, reduction_fine}
 use Rattle.sizes_meet_rules.proofs.Wanting.{then_is}
 use Rattle.sizes_meet_rules.proofs.Wide.{same_wanted, same_behind, wide_size, wide_is_function, wide_answer, behind_settled, Wide_went, wide_meets, wide_later, wide_gives}
 
@@ -321,16 +323,21 @@ module _ (N : Names) (types : Sub) (home : ℕ → ℕ) (K : Kinds) (places : Ki
     sized_some (g ∷ gs) st A (inr (inl h)) s = tt
     sized_some (g ∷ gs) st A (inr (inr h)) s = tt
 
-    module _ (f : FlatTerm) (lo : ℕ) (st : State) (d : Done Part) (S : Spine N types home K places data_places false In Vars scope f lo st d) (E : Elsewhere N types home lo (lo + numbers f) In) (kind : HasKind K places (types lo) ⊎ (Primitive_head N types home K In Vars scope S.term S.size S.regular S.type → ⊥)) (some : Nonempty S.given) (u : Done Size) (q : finished N types lo d.result d.state ≡ Ok u) where
+    module _ (f : FlatTerm) (lo : ℕ) (st : State) (d : Done Part) (S : Spine N types home K places data_places false In Vars scope f lo st d) (E : Elsewhere N types home lo (lo + numbers f) In) (kind : (H : Primitive_head N types home K In Vars scope S.term S.size S.regular S.type) → HasKind K places (types lo) ⊎ (Reduces H.primitive × One_left types home K places (types lo))) (some : Nonempty S.given) (u : Done Size) (q : finished N types lo d.result d.state ≡ Ok u) where
       abbrev wide : List Given
       wide = widened S.given S.size
 
-      data_kind : Primitive_head N types home K In Vars scope S.term S.size S.regular S.type → 1 ≤ rank K (types lo)
-      data_kind H = by_kind kind
+      -- what is left of a primitive has no function and no new variable
+      fine_there : (gs : List Given) → S.type ≡ arrows_of types gs (types lo) → (H : Primitive_head N types home K In Vars scope S.term S.size S.regular S.type) → Rest_fine gs (prim_size H.primitive)
+      fine_there gs arrows H = by_kind (kind H)
         where
-          by_kind : HasKind K places (types lo) ⊎ (Primitive_head N types home K In Vars scope S.term S.size S.regular S.type → ⊥) → 1 ≤ rank K (types lo)
-          by_kind (inl k) = omega (arith, data_places, k)
-          by_kind (inr k) = absurd (k H)
+          by_left : (t : Ty) → types lo ≡ t → Reduces H.primitive → One_left types home K places t → Rest_fine gs (prim_size H.primitive)
+          by_left (Made head.Fun (more a (more c none))) z r o = reduction_fine H.node H.primitive S.type H.given H.typed (λ x. ⊥) (λ x i. absurd i) Vars K H.kinds types gs a c r (let k = o.1 in omega (arith, data_places, k)) (arrows ∙ ap (arrows_of types gs) z)
+          by_left t z r o = absurd o
+
+          by_kind : HasKind K places (types lo) ⊎ (Reduces H.primitive × One_left types home K places (types lo)) → Rest_fine gs (prim_size H.primitive)
+          by_kind (inl k) = prim_fine H.node H.primitive S.type H.given H.typed (λ x. ⊥) (λ x i. absurd i) Vars K H.kinds types gs (types lo) (omega (arith, data_places, k)) arrows
+          by_kind (inr w) = by_left (types lo) refl w.0 w.1
 
       abbrev end_here : ℕ
       end_here = lo + numbers f
@@ -387,7 +394,7 @@ module _ (N : Names) (types : Sub) (home : ℕ → ℕ) (K : Kinds) (places : Ki
           R : Resolved N types home K In Vars scope S.term S.size S.regular S.type (With_met In (lo + length (arguments wide) + numbers S.term) end_here) (λ x i. inl i) (settled_here wide refl (λ x. refl) refl (λ p. p) (wide_some S.given S.size some)) lo wide d.state u (λ s. s ≡ d.state)
           R = resolved N types home K In Vars scope S.term S.size S.regular S.type (With_met In (lo + length (arguments wide) + numbers S.term) end_here) (λ x i. inl i) (settled_here wide refl (λ x. refl) refl (λ p. p) (wide_some S.given S.size some)) lo wide d.state u (types lo)
               (arrows_there wide refl (λ x. refl) refl (λ p. p) (wide_some S.given S.size some)) (widened_widths S.given S.size) (ran_there wide refl (λ x. refl) refl (λ p. p) (wide_some S.given S.size some))
-              data_kind
+              (fine_there wide (arrows_there wide refl (λ x. refl) refl (λ p. p) (wide_some S.given S.size some)))
               (all_fit N types home K places data_places In Vars scope lo (lo + length (arguments wide) + numbers S.term) end_here E (omega arith) wide st d.state (lo + length (arguments wide) + numbers S.term) (omega arith) (placed_there wide refl (λ x. refl) refl (λ p. p) (wide_some S.given S.size some)) wide_h) S.head
 
       -- and a lambda
@@ -432,7 +439,7 @@ module _ (N : Names) (types : Sub) (home : ℕ → ℕ) (K : Kinds) (places : Ki
 
           R : Resolved N types home K In Vars scope S.term S.size S.regular S.type (With_met In first_there end_here) (λ x i. inl i) (settled_here gs same_arguments same_arrows same_spine same_placed some_there) lo gs d.state u (λ s. Went × (s ≡ behind))
           R = primitive_lambda N types home K In Vars scope S.term S.size S.regular S.type (With_met In first_there end_here) (λ x i. inl i) (settled_here gs same_arguments same_arrows same_spine same_placed some_there) lo gs d.state u (types lo)
-              (arrows_there gs same_arguments same_arrows same_spine same_placed some_there) (sized_widths N types home K places data_places In Vars scope wide st d.state wide_h S.size (widened_widths S.given S.size)) (ran_there gs same_arguments same_arrows same_spine same_placed some_there) H (data_kind H)
+              (arrows_there gs same_arguments same_arrows same_spine same_placed some_there) (sized_widths N types home K places data_places In Vars scope wide st d.state wide_h S.size (widened_widths S.given S.size)) (ran_there gs same_arguments same_arrows same_spine same_placed some_there) H (fine_there gs (arrows_there gs same_arguments same_arrows same_spine same_placed some_there) H)
               Went behind (one_given N types home K places data_places In Vars scope lo first_there end_here E (omega arith) Went wide st d.state first_there (omega arith) placed_here wide_h (λ w. w))
 
       -- and a lambda before data, which takes the parameters that are wanted of it
@@ -505,7 +512,7 @@ module _ (N : Names) (types : Sub) (home : ℕ → ℕ) (K : Kinds) (places : Ki
 
         R : Resolved N types home K In Vars scope S.term S.size S.regular S.type (λ x. With_met In from_there end_here x) (λ x i. inl i) (settled_here (first_now ∷ gs) same_arguments same_arrows same_spine same_placed tt) lo (first_now ∷ gs) d.state u (λ s. Went × (s ≡ behind))
         R = primitive_wide N types home K In Vars scope S.term S.size S.regular S.type (λ x. With_met In from_there end_here x) (λ x i. inl i) (settled_here (first_now ∷ gs) same_arguments same_arrows same_spine same_placed tt) Behind_it (behind_settled N types home K places data_places In Vars scope lo from_there end_here E low g L node_is first_room answer d.state)
-            lo first_now gs d.state u (types lo) (arrows_there (first_now ∷ gs) same_arguments same_arrows same_spine same_placed tt) (sized_width (subst (λ ws. Widths ws S.size) (sym z) (widened_widths S.given S.size))) (ran_there (first_now ∷ gs) same_arguments same_arrows same_spine same_placed tt) H (data_kind H)
+            lo first_now gs d.state u (types lo) (arrows_there (first_now ∷ gs) same_arguments same_arrows same_spine same_placed tt) (sized_width (subst (λ ws. Widths ws S.size) (sym z) (widened_widths S.given S.size))) (ran_there (first_now ∷ gs) same_arguments same_arrows same_spine same_placed tt) H (fine_there (first_now ∷ gs) (arrows_there (first_now ∷ gs) same_arguments same_arrows same_spine same_placed tt) H)
             Went behind waiting_now L.waits.of_function.0 L.waits.of_function.1.0 L.waits.of_function.1.1 data_all data_there run
           where
             by_size : (t : Size) → Widths (g ∷ gs) t → Widths (first_now ∷ gs) t
@@ -607,7 +614,7 @@ module _ (N : Names) (types : Sub) (home : ℕ → ℕ) (K : Kinds) (places : Ki
 
         R_named : Resolved N types home K In Vars scope S.term S.size S.regular S.type In_all (λ x i. inl i) (settled_here (named_now ∷ gs) named_arguments named_arrows named_spine named_placed tt) lo (named_now ∷ gs) d.state u (λ s. Used_as In_all Vars L.own named_now.size × (s ≡ d.state))
         R_named = primitive_named N types home K In Vars scope S.term S.size S.regular S.type In_all (λ x i. inl i) (settled_here (named_now ∷ gs) named_arguments named_arrows named_spine named_placed tt) lo named_now gs d.state u (types lo) (arrows_there (named_now ∷ gs) named_arguments named_arrows named_spine named_placed tt)
-            (named_width S.size (subst (λ ws. Widths ws S.size) (sym z) (widened_widths S.given S.size))) (ran_there (named_now ∷ gs) named_arguments named_arrows named_spine named_placed tt) H (data_kind H)
+            (named_width S.size (subst (λ ws. Widths ws S.size) (sym z) (widened_widths S.given S.size))) (ran_there (named_now ∷ gs) named_arguments named_arrows named_spine named_placed tt) H (fine_there (named_now ∷ gs) (arrows_there (named_now ∷ gs) named_arguments named_arrows named_spine named_placed tt) H)
             given_named L.of_function.0 L.of_function.1.0 L.of_function.1.1 data_behind (record { formed = L.says.formed; sizes = each_scoped (λ x. With_met In g.node (g.node + numbers g.term) x) In_all own_in L.own 0 L.says.sizes; variables = L.says.variables; arrows = L.arrows }) L.typed
             (ap (named_size H.node types_here (prim_size H.primitive)) (sym (same_named lo (is_regular H.primitive) g size_now (cond g.named size_now L.own) L.own gs named_opened)))
             (λ b w. fresh_at (here lo gs) (omega arith) (let n = term_there in omega (arith, n)) (Unknown (here lo gs) b) w refl) lo (suc lo) (λ e. omega (arith, e)) (λ x w. (fresh_at lo (omega arith) (omega arith) x w, fresh_at (suc lo) (omega arith) (let n = term_there in omega (arith, n)) x w))
@@ -692,6 +699,11 @@ module _ (N : Names) (types : Sub) (home : ℕ → ℕ) (K : Kinds) (places : Ki
       call_head h [] c = c
       call_head h (g ∷ gs) c = call_head (Apply h g.term) gs c
 
-      kind : HasKind K places (types lo) ⊎ Is_call f → HasKind K places (types lo) ⊎ (Primitive_head N types home K In Vars scope S.term S.size S.regular S.type → ⊥)
-      kind (inl k) = inl k
-      kind (inr k) = inr (λ H. subst Is_call H.term_is (call_head S.term S.given (subst Is_call S.is k)))
+      reduction_head : (h : FlatTerm) (gs : List Given) → Is_reduction (spine h gs) → Is_reduction h
+      reduction_head h [] c = c
+      reduction_head h (g ∷ gs) c = reduction_head (Apply h g.term) gs c
+
+      kind : HasKind K places (types lo) ⊎ (Is_call f ⊎ (One_left types home K places (types lo) × Is_reduction f)) → (H : Primitive_head N types home K In Vars scope S.term S.size S.regular S.type) → HasKind K places (types lo) ⊎ (Reduces H.primitive × One_left types home K places (types lo))
+      kind (inl k) H = inl k
+      kind (inr (inl k)) H = absurd (subst Is_call H.term_is (call_head S.term S.given (subst Is_call S.is k)))
+      kind (inr (inr k)) H = inr (subst Is_reduction H.term_is (reduction_head S.term S.given (subst Is_reduction S.is k.1)), k.0)
