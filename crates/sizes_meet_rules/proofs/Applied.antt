@@ -7,7 +7,7 @@ use Rattle.fut_flat.specs.Terms.{Use, Apply}
 use Rattle.fut_flat.specs.Erased.{FlatTerm}
 use Rattle.fut_types.specs.declared.Kind.{Kind}
 use Rattle.fut_types.specs.declared.Head.TheVariants as head
-use Rattle.fut_types.specs.Types.{Ty, Made, none, more, fun_ty, Sub, Kinds, HasKind, rank, level}
+use Rattle.fut_types.specs.Types.{Ty, Made, none, more, fun_ty, Sub, Kinds, HasKind, level}
 use Rattle.fut_typing.specs.Names.{Names}
 use Rattle.sized_types.specs.Sizes.{Free, Const, Name, Own, Unknown, Slot, Variable, Size, Hole, Open, Level, Built, Fun, erased, renamed}
 use Rattle.fut_sizes.specs.Agreeing.{Answer}
