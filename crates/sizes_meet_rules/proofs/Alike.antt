@@ -20,7 +20,7 @@ use Rattle.sizes_meet_rules.proofs.Meeting.{each_scoped}
 use Rattle.sizes_meet_rules.proofs.Reading.{Extends}
 use Rattle.sizes_meet_rules.proofs.Replacing.{hole_as, hole_replaced}
 use Rattle.sizes_meet_rules.proofs.Settling.{Any_variable, nothing_settled}
-use Rattle.sizes_meet_rules.proofs.Filling.{Same, data_holes, Is_inferred, Nice, Taken_at, Taking, Stays, Agrees, Arrows, Given_met, Chain_as, chain_as, none_taken, nice_closed, nice_opened, nice_read, still_nice, size_same, agrees_before, not_open}
+use Rattle.sizes_meet_rules.proofs.Filling.{Same, taken_holes, Is_inferred, Nice, Taken_at, Taking, Stays, Agrees, Arrows, Given_met, Chain_as, chain_as, none_taken, nice_closed, nice_opened, nice_read, still_nice, size_same, agrees_before, not_open}
 
 module _ (n : ℕ) (types : Variable → Ty) (P : Free → Type 0) (settled : (d : Free) → P d → is_slot d ≡ false) (Vars : Variable → Type 0) where
   -- ---- with these types
@@ -266,7 +266,7 @@ module _ (n : ℕ) (types : Variable → Ty) (P : Free → Type 0) (settled : (d
     pub after_is : ran.after ≡ last.state
 
   pub given_ran : (lo : ℕ) (N : Names) (sub : Sub) (regular : Bool) (gs : List Given) (t : Size) (st : State) (u : Done Size) → Arrows n types P settled Vars gs t → Formed t → Each_hole Is_inferred t → (R : Steps_ran lo N sub regular gs (instance n types t) st u)
-      → (Taking n types P settled Vars R.first → ((v : Variable) → data_holes t v ≡ true → Taken_at n types P settled Vars R.first v) → Behind_data R.first R.last.result t) → Given_ran lo N sub gs t R.last u
+      → (Taking n types P settled Vars R.first → ((v : Variable) → taken_holes gs t v ≡ true → Taken_at n types P settled Vars R.first v) → Behind_data R.first R.last.result t) → Given_ran lo N sub gs t R.last u
   given_ran lo N sub regular gs t st u a f h R behind = record {
     types_now = Θ;
     is_data = λ v. (last_fine R.last.result B.taking v).0;

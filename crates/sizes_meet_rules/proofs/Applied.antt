@@ -1,16 +1,17 @@
 -- An application of a name or a primitive to all of its arguments meets the rules where these do.
-use Rattle.std.proofs.Common.{◌≡◌, ◌⊎◌, ℕ, suc, ◌+◌, ◌<◌, ◌≤◌, List, [], ◌∷◌, ◌++◌, Bool, true, false, Option, Some, None, Ok, refl, sym, ap, ◌∙◌, subst, arith, inl, inr}
+use Rattle.std.proofs.Common.{◌≡◌, ◌⊎◌, ℕ, suc, ◌+◌, ◌<◌, ◌≤◌, List, [], ◌∷◌, ◌++◌, Bool, true, false, cond, Option, Some, None, Ok, refl, sym, ap, ◌∙◌, subst, arith, inl, inr}
 use Rattle.std.specs.Prelude.{length}
 use Rattle.fut_flat.specs.declared.prim.Ref.TheVariants as ref
 use Rattle.fut_flat.specs.Numbers.{numbers}
 use Rattle.fut_flat.specs.Terms.{Use, Apply}
 use Rattle.fut_flat.specs.Erased.{FlatTerm}
 use Rattle.fut_types.specs.declared.Kind.{Kind}
-use Rattle.fut_types.specs.Types.{Ty, fun_ty, Sub, Kinds, HasKind, rank, level}
+use Rattle.fut_types.specs.declared.Head.TheVariants as head
+use Rattle.fut_types.specs.Types.{Ty, Made, none, more, fun_ty, Sub, Kinds, HasKind, level}
 use Rattle.fut_typing.specs.Names.{Names}
 use Rattle.sized_types.specs.Sizes.{Free, Const, Name, Own, Unknown, Slot, Variable, Size, Hole, Open, Level, Built, Fun, erased, renamed}
 use Rattle.fut_sizes.specs.Agreeing.{Answer}
-use Rattle.fut_sizes.specs.Applications.{Later, Argument, Part, Applied, uses}
+use Rattle.fut_sizes.specs.Applications.{Later, Argument, Part, Applied, is_function, uses}
 use Rattle.fut_sizes.specs.Primitives.{prim_size, is_regular}
 use Rattle.fut_sizes.specs.Functions.{is_slot, unknown_slot, closed}
 use Rattle.fut_sizes.specs.Matching.{Found, nothing_found, made_at, found_size, read, none_opened, dim_in, in_opened}
@@ -19,13 +20,14 @@ use Rattle.fut_sizes.specs.Scopes.{Scope, instance}
 use Rattle.fut_sizes.specs.Scoping.{Context}
 use Rattle.fut_sizes.specs.Sizing.{finished}
 use Rattle.fut_sizes.specs.Steps.{State, Done, at_node}
-use Rattle.fut_sizes.specs.Suiting.{Each, Scoped, Free_of, Suits}
-use Rattle.sizes_meet_rules.specs.Known.{Says, Judged, Elsewhere}
-use Rattle.sizes_meet_rules.specs.Plain.{Is_call}
+use Rattle.fut_sizes.specs.Suiting.{Each, Scoped, Free_of, Suits, suits_same}
+use Rattle.sizes_meet_rules.specs.Known.{is_i64_size, Says, Judged, Elsewhere}
+use Rattle.sizes_meet_rules.specs.Plain.{Reduces, Is_reduction, One_left, Is_call}
 use Rattle.sizes_meet_rules.proofs.Applying.{read_twice}
 use Rattle.sizes_meet_rules.proofs.Chains.{Given, Waiting_given, Named_given, Widths, arguments, Takes_all, widened, widened_widths, here, wants, laters, last_opened, last_size, last_goes, last_found, Matched_ran, last_slots, arrows_of, argument_by, All_plain, Reads, Kept, met_all}
+use Rattle.sizes_meet_rules.proofs.Filling.{Rest_fine}
 use Rattle.sizes_meet_rules.proofs.Frames.{Okay, none_meant, by_itself, Frames, not_filled, Framed, Settled_parameters, quantified_as}
-use Rattle.sizes_meet_rules.proofs.Meeting.{each_scoped, at_itself, at_another, With_met, met_settled}
+use Rattle.sizes_meet_rules.proofs.Meeting.{each_scoped, met_wider, at_itself, at_another, With_met, met_settled}
 use Rattle.sizes_meet_rules.proofs.Noting.{last_settled, within_avoids, Placed, placed_order, Avoids, Within, Right, noting, noting_other, noting_right, right_as, right_first, right_later, both_closed, both_avoid, both_within, both_distinct, laters_avoid, laters_within, laters_distinct, laters_closed, uses_avoid, uses_within, uses_distinct, uses_closed, met_noted_is, ended, Stages, Unnamed, stages}
 use Rattle.sizes_meet_rules.proofs.Reading.{found_settled}
 use Rattle.sizes_meet_rules.proofs.Replacing.{hole_as}
@@ -40,14 +42,14 @@ use Rattle.sizes_meet_rules.proofs.Later.{own_state, with_size, sized_by, state_
 use Rattle.sizes_meet_rules.proofs.Spines.{Spine, Spine_meets, Spine_law}
 use Rattle.sizes_meet_rules.proofs.Named.{named_found, same_named, named_size, named_is_function, Used_as}
 use Rattle.sizes_meet_rules.proofs.Lambdas.{Wants_formed, wanted_of, found_behind, Lambda_result, All_data_given}
-use Rattle.sizes_meet_rules.proofs.Primitives.{types_there}
+use Rattle.sizes_meet_rules.proofs.Primitives.{types_there, prim_fine, reduction_fine}
 use Rattle.sizes_meet_rules.proofs.Wanting.{then_is}
 use Rattle.sizes_meet_rules.proofs.Wide.{same_wanted, same_behind, wide_size, wide_is_function, wide_answer, behind_settled, Wide_went, wide_meets, wide_later, wide_gives}
 
 module _ (N : Names) (types : Sub) (home : ℕ → ℕ) (K : Kinds) (places : Kind) (data_places : 1 ≤ level places) where
   -- ---- with the numbers that are kept for each result
 
-  wide_argument : (g : Given) (m : ℕ) (o : Option Argument) → argument_by o (record { node = g.node; value = g.value; named = g.named; size = g.size; term = g.term; width = m; waits = g.waits }) ≡ argument_by o g
+  wide_argument : (g : Given) (m : ℕ) (o : Option Argument) → argument_by o (record { node = g.node; value = g.value; named = g.named; size = g.size; own = g.own; term = g.term; width = m; waits = g.waits }) ≡ argument_by o g
   wide_argument g m None = refl
   wide_argument g m (Some f) = refl
 
@@ -84,11 +86,11 @@ module _ (N : Names) (types : Sub) (home : ℕ → ℕ) (K : Kinds) (places : Ki
   wide_placed (g ∷ gs) (Built f ts) from hi p = p
 
   module _ (In : Free → Type 0) (Vars : Variable → Type 0) (scope : Scope) where
-    wide_data : (g : Given) (m : ℕ) (st mid : State) → Data_meets N types home K places data_places In Vars scope g st mid → Data_meets N types home K places data_places In Vars scope (record { node = g.node; value = g.value; named = g.named; size = g.size; term = g.term; width = m; waits = g.waits }) st mid
-    wide_data g m st mid h = (record { value_is = h.0.value_is; inner = record { says = h.0.inner.says; typed = h.0.inner.typed; kept = h.0.inner.kept; dropped = h.0.inner.dropped; rules = h.0.inner.rules }; noted = h.0.noted; value_known = h.0.value_known }, h.1)
+    wide_data : (g : Given) (m : ℕ) (st mid : State) → Data_meets N types home K places data_places In Vars scope g st mid → Data_meets N types home K places data_places In Vars scope (record { node = g.node; value = g.value; named = g.named; size = g.size; own = g.own; term = g.term; width = m; waits = g.waits }) st mid
+    wide_data g m st mid h = (record { value_is = h.0.value_is; inner = record { says = h.0.inner.says; typed = h.0.inner.typed; kept = h.0.inner.kept; dropped = h.0.inner.dropped; rules = h.0.inner.rules }; noted = h.0.noted; value_known = h.0.value_known; suits = h.0.suits; own_sizes = h.0.own_sizes; own_named = h.0.own_named; own_number = h.0.own_number }, h.1)
 
-    wide_function : (g : Given) (m : ℕ) (st mid : State) → Function_meets N types home K places data_places In Vars scope g st mid → Function_meets N types home K places data_places In Vars scope (record { node = g.node; value = g.value; named = g.named; size = g.size; term = g.term; width = m; waits = g.waits }) st mid
-    wide_function g m st mid h = (record { value_is = h.0.value_is; inner = record { says = h.0.inner.says; typed = h.0.inner.typed; kept = h.0.inner.kept; dropped = h.0.inner.dropped; rules = h.0.inner.rules }; noted = h.0.noted; value_known = h.0.value_known }, h.1)
+    wide_function : (g : Given) (m : ℕ) (st mid : State) → Function_meets N types home K places data_places In Vars scope g st mid → Function_meets N types home K places data_places In Vars scope (record { node = g.node; value = g.value; named = g.named; size = g.size; own = g.own; term = g.term; width = m; waits = g.waits }) st mid
+    wide_function g m st mid h = (record { value_is = h.0.value_is; inner = record { says = h.0.inner.says; typed = h.0.inner.typed; kept = h.0.inner.kept; dropped = h.0.inner.dropped; rules = h.0.inner.rules }; noted = h.0.noted; value_known = h.0.value_known; suits = h.0.suits; own_sizes = h.0.own_sizes; own_named = h.0.own_named; own_number = h.0.own_number }, h.1)
 
     wide_given : (gs : List Given) (t : Size) (st A : State) → All_given N types home K places data_places In Vars scope gs st A → All_given N types home K places data_places In Vars scope (widened gs t) st A
     wide_given [] t st A h = h
@@ -98,7 +100,7 @@ module _ (N : Names) (types : Sub) (home : ℕ → ℕ) (K : Kinds) (places : Ki
     wide_given (g ∷ gs) (Level d t) st A h = h
     wide_given (g ∷ gs) (Built f ts) st A h = h
 
-    wide_lambda : (g : Given) (m : ℕ) → Lambda_waits N types home K places data_places In Vars scope g → Lambda_waits N types home K places data_places In Vars scope (record { node = g.node; value = g.value; named = g.named; size = g.size; term = g.term; width = m; waits = g.waits })
+    wide_lambda : (g : Given) (m : ℕ) → Lambda_waits N types home K places data_places In Vars scope g → Lambda_waits N types home K places data_places In Vars scope (record { node = g.node; value = g.value; named = g.named; size = g.size; own = g.own; term = g.term; width = m; waits = g.waits })
     wide_lambda g m h = record { st = h.st; part = h.part; waits = h.waits; waits_is = h.waits_is; value = h.value; named = h.named; flat = h.flat }
 
     wide_waits : (gs : List Given) (t : Size) (st A : State) → One_waits N types home K places data_places In Vars scope gs st A → One_waits N types home K places data_places In Vars scope (widened gs t) st A
@@ -113,8 +115,8 @@ module _ (N : Names) (types : Sub) (home : ℕ → ℕ) (K : Kinds) (places : Ki
 
     wide_first : (gs : List Given) (t : Size) (st A : State) → First_waits N types home K places data_places In Vars scope gs st A → First_waits N types home K places data_places In Vars scope (widened gs t) st A
     wide_first [] t st A h = absurd h
-    wide_first (g ∷ gs) (Fun k p r) st A (inl L, h) = (inl (record { st = L.st; part = L.part; waits = L.waits; waits_is = L.waits_is; value = L.value; named = L.named; is_fun = L.is_fun; gives = L.gives }), wide_given gs r st A h)
-    wide_first (g ∷ gs) (Fun k p r) st A (inr L, h) = (inr (record { own = L.own; waits_is = L.waits_is; named = L.named; own_fun = L.own_fun; value_is = L.value_is; value_known = L.value_known; says = L.says; typed = L.typed; arrows = L.arrows; of_function = L.of_function; rules = L.rules }), wide_given gs r st A h)
+    wide_first (g ∷ gs) (Fun k p r) st A (inl (L, h)) = inl (record { st = L.st; part = L.part; waits = L.waits; waits_is = L.waits_is; value = L.value; named = L.named; is_fun = L.is_fun; gives = L.gives }, wide_given gs r st A h)
+    wide_first (g ∷ gs) (Fun k p r) st A (inr (mid, (L, h))) = inr (mid, (record { own = L.own; waits_is = L.waits_is; own_fun = L.own_fun; value_is = L.value_is; value_known = L.value_known; says = L.says; typed = L.typed; arrows = L.arrows; of_function = L.of_function; kept = L.kept; dropped = L.dropped; noted = L.noted; rules = L.rules }, wide_given gs r mid A h))
     wide_first (g ∷ gs) (Hole v) st A h = h
     wide_first (g ∷ gs) (Open m v u) st A h = h
     wide_first (g ∷ gs) (Level d t) st A h = h
@@ -321,16 +323,21 @@ module _ (N : Names) (types : Sub) (home : ℕ → ℕ) (K : Kinds) (places : Ki
     sized_some (g ∷ gs) st A (inr (inl h)) s = tt
     sized_some (g ∷ gs) st A (inr (inr h)) s = tt
 
-    module _ (f : FlatTerm) (lo : ℕ) (st : State) (d : Done Part) (S : Spine N types home K places data_places false In Vars scope f lo st d) (E : Elsewhere N types home lo (lo + numbers f) In) (kind : HasKind K places (types lo) ⊎ (Primitive_head N types home K In Vars scope S.term S.size S.regular S.type → ⊥)) (some : Nonempty S.given) (u : Done Size) (q : finished N types lo d.result d.state ≡ Ok u) where
+    module _ (f : FlatTerm) (lo : ℕ) (st : State) (d : Done Part) (S : Spine N types home K places data_places false In Vars scope f lo st d) (E : Elsewhere N types home lo (lo + numbers f) In) (kind : (H : Primitive_head N types home K In Vars scope S.term S.size S.regular S.type) → HasKind K places (types lo) ⊎ (Reduces H.primitive × One_left types home K places (types lo))) (some : Nonempty S.given) (u : Done Size) (q : finished N types lo d.result d.state ≡ Ok u) where
       abbrev wide : List Given
       wide = widened S.given S.size
 
-      data_kind : Primitive_head N types home K In Vars scope S.term S.size S.regular S.type → 1 ≤ rank K (types lo)
-      data_kind H = by_kind kind
+      -- what is left of a primitive has no function and no new variable
+      fine_there : (gs : List Given) → S.type ≡ arrows_of types gs (types lo) → (H : Primitive_head N types home K In Vars scope S.term S.size S.regular S.type) → Rest_fine gs (prim_size H.primitive)
+      fine_there gs arrows H = by_kind (kind H)
         where
-          by_kind : HasKind K places (types lo) ⊎ (Primitive_head N types home K In Vars scope S.term S.size S.regular S.type → ⊥) → 1 ≤ rank K (types lo)
-          by_kind (inl k) = omega (arith, data_places, k)
-          by_kind (inr k) = absurd (k H)
+          by_left : (t : Ty) → types lo ≡ t → Reduces H.primitive → One_left types home K places t → Rest_fine gs (prim_size H.primitive)
+          by_left (Made head.Fun (more a (more c none))) z r o = reduction_fine H.node H.primitive S.type H.given H.typed (λ x. ⊥) (λ x i. absurd i) Vars K H.kinds types gs a c r (let k = o.1 in omega (arith, data_places, k)) (arrows ∙ ap (arrows_of types gs) z)
+          by_left t z r o = absurd o
+
+          by_kind : HasKind K places (types lo) ⊎ (Reduces H.primitive × One_left types home K places (types lo)) → Rest_fine gs (prim_size H.primitive)
+          by_kind (inl k) = prim_fine H.node H.primitive S.type H.given H.typed (λ x. ⊥) (λ x i. absurd i) Vars K H.kinds types gs (types lo) (omega (arith, data_places, k)) arrows
+          by_kind (inr w) = by_left (types lo) refl w.0 w.1
 
       abbrev end_here : ℕ
       end_here = lo + numbers f
@@ -387,7 +394,7 @@ module _ (N : Names) (types : Sub) (home : ℕ → ℕ) (K : Kinds) (places : Ki
           R : Resolved N types home K In Vars scope S.term S.size S.regular S.type (With_met In (lo + length (arguments wide) + numbers S.term) end_here) (λ x i. inl i) (settled_here wide refl (λ x. refl) refl (λ p. p) (wide_some S.given S.size some)) lo wide d.state u (λ s. s ≡ d.state)
           R = resolved N types home K In Vars scope S.term S.size S.regular S.type (With_met In (lo + length (arguments wide) + numbers S.term) end_here) (λ x i. inl i) (settled_here wide refl (λ x. refl) refl (λ p. p) (wide_some S.given S.size some)) lo wide d.state u (types lo)
               (arrows_there wide refl (λ x. refl) refl (λ p. p) (wide_some S.given S.size some)) (widened_widths S.given S.size) (ran_there wide refl (λ x. refl) refl (λ p. p) (wide_some S.given S.size some))
-              data_kind
+              (fine_there wide (arrows_there wide refl (λ x. refl) refl (λ p. p) (wide_some S.given S.size some)))
               (all_fit N types home K places data_places In Vars scope lo (lo + length (arguments wide) + numbers S.term) end_here E (omega arith) wide st d.state (lo + length (arguments wide) + numbers S.term) (omega arith) (placed_there wide refl (λ x. refl) refl (λ p. p) (wide_some S.given S.size some)) wide_h) S.head
 
       -- and a lambda
@@ -432,7 +439,7 @@ module _ (N : Names) (types : Sub) (home : ℕ → ℕ) (K : Kinds) (places : Ki
 
           R : Resolved N types home K In Vars scope S.term S.size S.regular S.type (With_met In first_there end_here) (λ x i. inl i) (settled_here gs same_arguments same_arrows same_spine same_placed some_there) lo gs d.state u (λ s. Went × (s ≡ behind))
           R = primitive_lambda N types home K In Vars scope S.term S.size S.regular S.type (With_met In first_there end_here) (λ x i. inl i) (settled_here gs same_arguments same_arrows same_spine same_placed some_there) lo gs d.state u (types lo)
-              (arrows_there gs same_arguments same_arrows same_spine same_placed some_there) (sized_widths N types home K places data_places In Vars scope wide st d.state wide_h S.size (widened_widths S.given S.size)) (ran_there gs same_arguments same_arrows same_spine same_placed some_there) H (data_kind H)
+              (arrows_there gs same_arguments same_arrows same_spine same_placed some_there) (sized_widths N types home K places data_places In Vars scope wide st d.state wide_h S.size (widened_widths S.given S.size)) (ran_there gs same_arguments same_arrows same_spine same_placed some_there) H (fine_there gs (arrows_there gs same_arguments same_arrows same_spine same_placed some_there) H)
               Went behind (one_given N types home K places data_places In Vars scope lo first_there end_here E (omega arith) Went wide st d.state first_there (omega arith) placed_here wide_h (λ w. w))
 
       -- and a lambda before data, which takes the parameters that are wanted of it
@@ -505,7 +512,7 @@ module _ (N : Names) (types : Sub) (home : ℕ → ℕ) (K : Kinds) (places : Ki
 
         R : Resolved N types home K In Vars scope S.term S.size S.regular S.type (λ x. With_met In from_there end_here x) (λ x i. inl i) (settled_here (first_now ∷ gs) same_arguments same_arrows same_spine same_placed tt) lo (first_now ∷ gs) d.state u (λ s. Went × (s ≡ behind))
         R = primitive_wide N types home K In Vars scope S.term S.size S.regular S.type (λ x. With_met In from_there end_here x) (λ x i. inl i) (settled_here (first_now ∷ gs) same_arguments same_arrows same_spine same_placed tt) Behind_it (behind_settled N types home K places data_places In Vars scope lo from_there end_here E low g L node_is first_room answer d.state)
-            lo first_now gs d.state u (types lo) (arrows_there (first_now ∷ gs) same_arguments same_arrows same_spine same_placed tt) (sized_width (subst (λ ws. Widths ws S.size) (sym z) (widened_widths S.given S.size))) (ran_there (first_now ∷ gs) same_arguments same_arrows same_spine same_placed tt) H (data_kind H)
+            lo first_now gs d.state u (types lo) (arrows_there (first_now ∷ gs) same_arguments same_arrows same_spine same_placed tt) (sized_width (subst (λ ws. Widths ws S.size) (sym z) (widened_widths S.given S.size))) (ran_there (first_now ∷ gs) same_arguments same_arrows same_spine same_placed tt) H (fine_there (first_now ∷ gs) (arrows_there (first_now ∷ gs) same_arguments same_arrows same_spine same_placed tt) H)
             Went behind waiting_now L.waits.of_function.0 L.waits.of_function.1.0 L.waits.of_function.1.1 data_all data_there run
           where
             by_size : (t : Size) → Widths (g ∷ gs) t → Widths (first_now ∷ gs) t
@@ -521,11 +528,11 @@ module _ (N : Names) (types : Sub) (home : ℕ → ℕ) (K : Kinds) (places : Ki
         one_first : Meets N types home In Vars scope f lo end_here st u.result u.state
         one_first = meets_there (first_now ∷ gs) same_arguments same_arrows same_spine same_placed tt (λ s. Went × (s ≡ behind)) R
             (subst (λ B. All_parts N types home K places data_places In Vars scope end_here d.state B (first_now ∷ gs) st d.state) (sym R.ends.1)
-            (st, (inr (wide_meets N types home K places data_places In Vars scope lo from_there end_here E low g L node_is first_room answer d.state R.ends.0, refl), data_parts N types home K places data_places In Vars scope end_here behind d.state gs st d.state h)))
+            (st, (inr (inr (wide_meets N types home K places data_places In Vars scope lo from_there end_here E low g L node_is first_room answer d.state R.ends.0, refl)), data_parts N types home K places data_places In Vars scope end_here behind d.state gs st d.state h)))
             (subst (λ B. Later_part N types home K places data_places In Vars scope d.state B (first_now ∷ gs)) (sym R.ends.1) (wide_later N types home K places data_places In Vars scope lo from_there end_here E low g L node_is first_room answer d.state R.ends.0 gs))
 
-      -- and a name before data, which is used at the sizes that are wanted of it
-      module _ (g : Given) (gs : List Given) (z : g ∷ gs ≡ wide) (L : Named_wide N types home K places data_places In Vars scope g) (h : All_given N types home K places data_places In Vars scope gs st d.state) (H : Primitive_head N types home K In Vars scope S.term S.size S.regular S.type) where
+      -- and a name or an application before data, which is used at the sizes that are wanted of it
+      module _ (g : Given) (gs : List Given) (z : g ∷ gs ≡ wide) (mid : State) (L : Named_wide N types home K places data_places In Vars scope g st mid) (h : All_given N types home K places data_places In Vars scope gs mid d.state) (H : Primitive_head N types home K In Vars scope S.term S.size S.regular S.type) where
         abbrev types_here : Variable → Ty
         types_here = types_there H.node H.primitive S.type H.given H.typed
 
@@ -535,8 +542,11 @@ module _ (N : Names) (types : Sub) (home : ℕ → ℕ) (K : Kinds) (places : Ki
         abbrev named_answer : Answer Found
         named_answer = named_found lo (is_regular H.primitive) g L.own gs named_opened
 
+        abbrev size_now : Size
+        size_now = named_size H.node types_here (prim_size H.primitive) named_answer
+
         abbrev named_now : Given
-        named_now = with_size g (named_size H.node types_here (prim_size H.primitive) named_answer)
+        named_now = record { node = g.node; value = g.value; named = g.named; size = size_now; own = cond g.named size_now L.own; term = g.term; width = g.width; waits = g.waits }
 
         named_arguments : arguments (named_now ∷ gs) ≡ arguments wide
         named_arguments = ap (λ a. a ∷ arguments gs) (ap (λ o. argument_by o named_now) L.waits_is ∙ ap (λ o. argument_by o g) (sym L.waits_is)) ∙ ap arguments z
@@ -566,7 +576,7 @@ module _ (N : Names) (types : Sub) (home : ℕ → ℕ) (K : Kinds) (places : Ki
         In_all x = With_met In begins end_here x
 
         data_behind : All_data_given In_all Vars K types gs
-        data_behind = all_fit N types home K places data_places In Vars scope lo begins end_here E (omega arith) gs st d.state (begins + numbers g.term) (omega arith) placed_there_now.1 h
+        data_behind = all_fit N types home K places data_places In Vars scope lo begins end_here E (omega arith) gs mid d.state (begins + numbers g.term) (omega arith) placed_there_now.1 h
 
         -- none of its sizes is made at a node before its arguments
         fresh_at : (n : ℕ) → lo ≤ n → n < begins → (x : Free) → In_all x → Free_of n x
@@ -583,7 +593,7 @@ module _ (N : Names) (types : Sub) (home : ℕ → ℕ) (K : Kinds) (places : Ki
         term_there = S.some
 
         abbrev given_named : Named_given named_now
-        given_named = record { own = L.own; waits = L.waits_is; named = L.named; own_fun = L.own_fun; is_fun = named_is_function H.node types_here (prim_size H.primitive) named_answer }
+        given_named = record { own = L.own; waits = L.waits_is; own_fun = L.own_fun; is_fun = named_is_function H.node types_here (prim_size H.primitive) named_answer }
 
         named_width : (t : Size) → Widths (g ∷ gs) t → Widths (named_now ∷ gs) t
         named_width (Fun k p r) w = w
@@ -592,37 +602,69 @@ module _ (N : Names) (types : Sub) (home : ℕ → ℕ) (K : Kinds) (places : Ki
         named_width (Level e t) w = tt
         named_width (Built b ts) w = tt
 
+        named_room : g.node + numbers g.term ≤ end_here
+        named_room = let y = begins_at in let q = placed_order gs (begins + numbers g.term) end_here placed_there_now.1 in omega (arith, y, q)
+
+        own_later : (x : Free) → With_met In g.node (g.node + numbers g.term) x → With_met In g.node end_here x
+        own_later x (inl i) = inl i
+        own_later x (inr i) = inr (met_wider g.node (g.node + numbers g.term) g.node end_here (omega arith) named_room x i)
+
+        own_in : (x : Free) → With_met In g.node (g.node + numbers g.term) x → In_all x
+        own_in x i = subst (λ m. With_met In m end_here x) (sym begins_at) (own_later x i)
+
         R_named : Resolved N types home K In Vars scope S.term S.size S.regular S.type In_all (λ x i. inl i) (settled_here (named_now ∷ gs) named_arguments named_arrows named_spine named_placed tt) lo (named_now ∷ gs) d.state u (λ s. Used_as In_all Vars L.own named_now.size × (s ≡ d.state))
         R_named = primitive_named N types home K In Vars scope S.term S.size S.regular S.type In_all (λ x i. inl i) (settled_here (named_now ∷ gs) named_arguments named_arrows named_spine named_placed tt) lo named_now gs d.state u (types lo) (arrows_there (named_now ∷ gs) named_arguments named_arrows named_spine named_placed tt)
-            (named_width S.size (subst (λ ws. Widths ws S.size) (sym z) (widened_widths S.given S.size))) (ran_there (named_now ∷ gs) named_arguments named_arrows named_spine named_placed tt) H (data_kind H)
-            given_named L.of_function.0 L.of_function.1.0 L.of_function.1.1 data_behind (record { formed = L.says.formed; sizes = each_scoped In In_all (λ x i. inl i) L.own 0 L.says.sizes; variables = L.says.variables; arrows = L.arrows }) L.typed
-            (ap (named_size H.node types_here (prim_size H.primitive)) (sym (same_named lo (is_regular H.primitive) g (named_size H.node types_here (prim_size H.primitive) named_answer) L.own gs named_opened)))
+            (named_width S.size (subst (λ ws. Widths ws S.size) (sym z) (widened_widths S.given S.size))) (ran_there (named_now ∷ gs) named_arguments named_arrows named_spine named_placed tt) H (fine_there (named_now ∷ gs) (arrows_there (named_now ∷ gs) named_arguments named_arrows named_spine named_placed tt) H)
+            given_named L.of_function.0 L.of_function.1.0 L.of_function.1.1 data_behind (record { formed = L.says.formed; sizes = each_scoped (λ x. With_met In g.node (g.node + numbers g.term) x) In_all own_in L.own 0 L.says.sizes; variables = L.says.variables; arrows = L.arrows }) L.typed
+            (ap (named_size H.node types_here (prim_size H.primitive)) (sym (same_named lo (is_regular H.primitive) g size_now (cond g.named size_now L.own) L.own gs named_opened)))
             (λ b w. fresh_at (here lo gs) (omega arith) (let n = term_there in omega (arith, n)) (Unknown (here lo gs) b) w refl) lo (suc lo) (λ e. omega (arith, e)) (λ x w. (fresh_at lo (omega arith) (omega arith) x w, fresh_at (suc lo) (omega arith) (let n = term_there in omega (arith, n)) x w))
 
-        named_meets : Used_as In_all Vars L.own named_now.size → Given_meets N types home K places data_places In Vars scope end_here named_now d.state d.state
+        no_number : (t : Size) → is_function t ≡ true → is_i64_size t ≡ true → ⊥
+        no_number (Fun k p r) a b = let y : false ≡ true = b in cc
+        no_number (Hole v) a b = let y : false ≡ true = a in cc
+        no_number (Open m v x) a b = let y : false ≡ true = b in cc
+        no_number (Level e t) a b = let y : false ≡ true = b in cc
+        no_number (Built k ts) a b = let y : false ≡ true = a in cc
+
+        named_meets : Used_as In_all Vars L.own named_now.size → Given_meets N types home K places data_places In Vars scope end_here named_now st mid
         named_meets U = record {
           value_is = L.value_is;
           inner = record {
-            says = record { sizes = subst (λ m. Each (Scoped (λ x. With_met In m end_here x)) 0 named_now.size) begins_at U.says.sizes; variables = U.says.variables; formed = U.says.formed };
+            says = record { sizes = sizes_there; variables = U.says.variables; formed = U.says.formed };
             typed = U.typed ∙ L.typed;
-            kept = λ n o. refl;
-            dropped = λ n o. refl;
-            rules = λ s G J e a. L.rules s G J (subst (Suits L.own) (sym e) U.suits);
+            kept = L.kept;
+            dropped = L.dropped;
+            rules = λ s G J e a. L.rules s G J size_now U.suits e a;
           };
-          noted = λ e. absurd (let y : true ≡ false = sym L.named ∙ e in cc);
+          noted = λ e. L.noted e ∙ ap (λ b. cond b size_now L.own) (sym e);
           value_known = L.value_known;
+          suits = node_suits g.named;
+          own_sizes = node_sizes g.named;
+          own_named = λ e. ap (λ b. cond b size_now L.own) e;
+          own_number = λ e. absurd (no_number size_now (named_is_function H.node types_here (prim_size H.primitive) named_answer) e);
         }
+          where
+            sizes_there : Each (Scoped (λ x. With_met In g.node end_here x)) 0 size_now
+            sizes_there = subst (λ m. Each (Scoped (λ x. With_met In m end_here x)) 0 size_now) begins_at U.says.sizes
+
+            node_suits : (b : Bool) → Suits (cond b size_now L.own) size_now
+            node_suits true = suits_same
+            node_suits false = U.suits
+
+            node_sizes : (b : Bool) → Each (Scoped (λ x. With_met In g.node end_here x)) 0 (cond b size_now L.own)
+            node_sizes true = sizes_there
+            node_sizes false = each_scoped (λ x. With_met In g.node (g.node + numbers g.term) x) (λ x. With_met In g.node end_here x) own_later L.own 0 L.says.sizes
 
         one_named : Meets N types home In Vars scope f lo end_here st u.result u.state
         one_named = meets_there (named_now ∷ gs) named_arguments named_arrows named_spine named_placed tt (λ s. Used_as In_all Vars L.own named_now.size × (s ≡ d.state)) R_named
             (subst (λ B. All_parts N types home K places data_places In Vars scope end_here d.state B (named_now ∷ gs) st d.state) (sym R_named.ends.1)
-            (st, (inr (named_meets R_named.ends.0, refl), data_parts N types home K places data_places In Vars scope end_here d.state d.state gs st d.state h)))
+            (mid, (inr (inl (named_meets R_named.ends.0, (L.own, L.waits_is))), data_parts N types home K places data_places In Vars scope end_here d.state d.state gs mid d.state h)))
             (subst (λ B. Later_part N types home K places data_places In Vars scope d.state B (named_now ∷ gs)) (sym R_named.ends.1) (none_later N types home K places data_places In Vars scope d.state (named_now ∷ gs)))
 
       first_meets : (ws : List Given) → ws ≡ wide → First_waits N types home K places data_places In Vars scope ws st d.state → Primitive_head N types home K In Vars scope S.term S.size S.regular S.type → Meets N types home In Vars scope f lo end_here st u.result u.state
       first_meets [] z h H = absurd h
-      first_meets (g ∷ gs) z (inl L, h) H = one_first g gs z L h H
-      first_meets (g ∷ gs) z (inr L, h) H = one_named g gs z L h H
+      first_meets (g ∷ gs) z (inl (L, h)) H = one_first g gs z L h H
+      first_meets (g ∷ gs) z (inr (mid, (L, h))) H = one_named g gs z mid L h H
 
       any_meets : Meets N types home In Vars scope f lo end_here st u.result u.state
       any_meets = by_kind S.meet
@@ -657,6 +699,11 @@ module _ (N : Names) (types : Sub) (home : ℕ → ℕ) (K : Kinds) (places : Ki
       call_head h [] c = c
       call_head h (g ∷ gs) c = call_head (Apply h g.term) gs c
 
-      kind : HasKind K places (types lo) ⊎ Is_call f → HasKind K places (types lo) ⊎ (Primitive_head N types home K In Vars scope S.term S.size S.regular S.type → ⊥)
-      kind (inl k) = inl k
-      kind (inr k) = inr (λ H. subst Is_call H.term_is (call_head S.term S.given (subst Is_call S.is k)))
+      reduction_head : (h : FlatTerm) (gs : List Given) → Is_reduction (spine h gs) → Is_reduction h
+      reduction_head h [] c = c
+      reduction_head h (g ∷ gs) c = reduction_head (Apply h g.term) gs c
+
+      kind : HasKind K places (types lo) ⊎ (Is_call f ⊎ (One_left types home K places (types lo) × Is_reduction f)) → (H : Primitive_head N types home K In Vars scope S.term S.size S.regular S.type) → HasKind K places (types lo) ⊎ (Reduces H.primitive × One_left types home K places (types lo))
+      kind (inl k) H = inl k
+      kind (inr (inl k)) H = absurd (subst Is_call H.term_is (call_head S.term S.given (subst Is_call S.is k)))
+      kind (inr (inr k)) H = inr (subst Is_reduction H.term_is (reduction_head S.term S.given (subst Is_reduction S.is k.1)), k.0)

@@ -31,6 +31,8 @@ pub record Given : Type 0 where
   pub value : Option Free
   pub named : Bool
   pub size : Size
+  -- the sized type of its node, where it is no name
+  pub own : Size
   pub term : FlatTerm
   -- how many numbers are kept for what the function gives behind it
   pub width : ℕ
@@ -137,7 +139,7 @@ Widths (g ∷ gs) (Fun k p r) = (levels_within r ≡ g.width) × Widths gs r
 Widths gs t = Unit {0}
 
 abbrev pub widened : List Given → Size → List Given
-widened (g ∷ gs) (Fun k p r) = record { node = g.node; value = g.value; named = g.named; size = g.size; term = g.term; width = levels_within r; waits = g.waits } ∷ widened gs r
+widened (g ∷ gs) (Fun k p r) = record { node = g.node; value = g.value; named = g.named; size = g.size; own = g.own; term = g.term; width = levels_within r; waits = g.waits } ∷ widened gs r
 widened gs t = gs
 
 pub widened_widths : (gs : List Given) (t : Size) → Widths (widened gs t) t
@@ -216,11 +218,10 @@ pub record Waiting_given (g : Given) : Type 0 where
   pub named : g.named ≡ false
   pub is_fun : is_function g.size ≡ true
 
--- a function by its name, which is used at the sized type that is wanted of it
+-- a function that is used at the sized type which is wanted of it
 pub record Named_given (g : Given) : Type 0 where
   pub own : Size
-  pub waits : g.waits ≡ Some (Early g.node g.value true own)
-  pub named : g.named ≡ true
+  pub waits : g.waits ≡ Some (Early g.node g.value g.named own)
   pub own_fun : is_function own ≡ true
   pub is_fun : is_function g.size ≡ true
 
@@ -236,9 +237,13 @@ frame_same m next k g (inl d) = ap (λ o. applied_frame m next k (argument_by o 
 frame_same m next k g (inr (inr W)) = ap (λ o. applied_frame m next k (argument_by o g)) W.waits
 frame_same m next k g (inr (inl W)) = ap (λ o. applied_frame m next k (argument_by o g)) W.waits ∙ ap {B = ℕ → Dim} (λ (v : Option Free) (i : ℕ). cond (nat_lt i k) (At (Slot (next + i))) (cond (nat_eq i k) (value_or v (Unknown m (next + k))) (At (Unknown m (next + i))))) (sym W.value)
 
+use_any : (g : Given) (t : Size) (φ : Opened) (p : Size) (ls : List Later) (b : Bool) → with_use (Early g.node g.value b t) φ p ls ≡ with_use (Early g.node g.value b g.size) φ p ls
+use_any g t φ p ls true = refl
+use_any g t φ p ls false = refl
+
 use_same : (g : Given) (φ : Opened) (p : Size) (ls : List Later) → Kind_of g → with_use (argument_by g.waits g) φ p ls ≡ with_use (early g) φ p ls
 use_same g φ p ls (inl d) = ap (λ o. with_use (argument_by o g) φ p ls) d
-use_same g φ p ls (inr (inr W)) = ap (λ o. with_use (argument_by o g) φ p ls) W.waits ∙ ap (λ b. with_use (Early g.node g.value b g.size) φ p ls) (sym W.named)
+use_same g φ p ls (inr (inr W)) = ap (λ o. with_use (argument_by o g) φ p ls) W.waits ∙ use_any g W.own φ p ls g.named
 use_same g φ p ls (inr (inl W)) = ap (λ o. with_use (argument_by o g) φ p ls) W.waits ∙ ap (λ b. with_use (Early g.node g.value b g.size) φ p ls) (sym W.named)
 
 module _ (n : ℕ) where
@@ -471,7 +476,7 @@ module _ (n : ℕ) where
     -- ---- what is read once all are matched
 
     abbrev pub Plain_given : Given → Type 0
-    Plain_given g = Formed g.size × Each (Scoped P) 0 g.size × ((d : Free) → g.value ≡ Some d → is_slot d ≡ false)
+    Plain_given g = Formed g.size × Each (Scoped P) 0 g.size × ((d : Free) → g.value ≡ Some d → is_slot d ≡ false) × (g.named ≡ true → g.own ≡ g.size)
 
     abbrev pub All_plain : List Given → Type 0
     All_plain [] = Unit {0}

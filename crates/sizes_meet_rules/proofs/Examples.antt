@@ -341,6 +341,35 @@ its_sums = refl
 sums_rules : (u : Done Size) → Typed N kind.Data sums 0 no_types K sum_types → sums_size ≡ Ok u → Sized N sum_types u.state.nodes home sums 0 nothing_known
 sums_rules u t e = let x = then_ok sums_part e in (sizing_meets_rules N sum_types home K kind.Data sums 0 no_state x.first u (omega arith) sums_plain t x.done x.rest).0
 
+-- ---- a reduction as an argument: `\xss -> map (reduce i64.max 0) xss`
+
+abbrev folded : FlatTerm
+folded = Lambda (pattern_and (Bound_pattern (b 4)) no_pattern) (Apply (Apply (primitive prim.Map) (Apply (Apply (primitive prim.Reduce) (primitive (prim.Max int.I64))) (Strict (Integer 0 None) here no_term))) (named 4))
+
+-- 2 is the application of `map`, 5 and 6 are those of `reduce`, 9 is 0
+abbrev fold_types : Sub
+fold_types n = cond (is_any (0 ∷ 3 ∷ []) n) (fun_ty rows (array_ty i64_ty)) (cond (is_any (1 ∷ 10 ∷ []) n) rows (cond (nat_eq n 4) (fun_ty (fun_ty (array_ty i64_ty) i64_ty) (fun_ty rows (array_ty i64_ty))) (cond (nat_eq n 5) (fun_ty (array_ty i64_ty) i64_ty) (cond (nat_eq n 6) (fun_ty i64_ty (fun_ty (array_ty i64_ty) i64_ty)) (cond (nat_eq n 7) (fun_ty (fun_ty i64_ty (fun_ty i64_ty i64_ty)) (fun_ty i64_ty (fun_ty (array_ty i64_ty) i64_ty))) (cond (nat_eq n 8) (fun_ty i64_ty (fun_ty i64_ty i64_ty)) (cond (nat_eq n 9) i64_ty (array_ty i64_ty))))))))
+
+folded_plain : Plain_term fold_types home K kind.Data N folded 0
+unfolding Formed_type Formed_types Flat_type Flat_types rank least
+folded_plain = (
+  (refl, tt, omega arith, tt),
+  (inl (omega arith), (inl (omega arith, (inr (inr (refl, inr (omega arith, inl (omega arith)), tt)), (inr (inr ((omega arith, omega arith), tt)), (inl (omega arith, (inr (inl (refl, ((tt, tt), inr ((tt, tt), inl (omega arith))), tt)), tt)), ((scalar.Int int.I64, refl), tt))))), inl refl)),
+)
+
+abbrev folded_part : Answer (Done Part)
+folded_part = sized N fold_types folded [] 0 nothing no_state
+
+abbrev folded_size : Answer (Done Size)
+folded_size = then_do folded_part (λ d. finished N fold_types 0 d.result d.state)
+
+its_folded : then_do folded_size (λ d. Ok d.result) ≡ Ok (Fun 2 (Level (Bound 0 0) (Level (Bound 0 1) (scalar_size (scalar.Int int.I64)))) (Level (Bound 0 0) (scalar_size (scalar.Int int.I64))))
+unfolding agree all_agree kept all_kept leaving type_levels all_type_levels of_type of_types all_settled parts_settled data_met functions_met all_matched applied collected all_collected sizes_in function_size chosen_in quantified closed filled all_filled read all_read opened_inside compared all_compared meet all_meet elements_agree slice_size indexed updated operation sized_type prim_size sizing type_of type_in instance instances used taken all_taken fields_taken bound_by erased all_erased is_free is_dim levels all_levels levels_within all_levels_within replaced all_replaced has some_has takes some_takes is_open some_open matched lacking all_lacking differing all_differing turns_from pattern_noted patterns_noted fields_noted sized all_sized turns_sized condition_sized right_sized inner_sized part_of changed_part has_sizes all_have_sizes fields_have_sizes with_sizes all_with_sizes fields_with_sizes ascribed coerced coercion parameter_size declared
+its_folded = refl
+
+folded_rules : (u : Done Size) → Typed N kind.Data folded 0 no_types K fold_types → folded_size ≡ Ok u → Sized N fold_types u.state.nodes home folded 0 nothing_known
+folded_rules u t e = let x = then_ok folded_part e in (sizing_meets_rules N fold_types home K kind.Data folded 0 no_state x.first u (omega arith) folded_plain t x.done x.rest).0
+
 -- ---- a name that takes and gives rows: `def f xs = xs` and `def main xss = map f xss`
 
 abbrev same : FlatTerm
@@ -373,6 +402,38 @@ its_each = refl
 
 each_rules : (nodes : ℕ → Size) → Program_typed N kind.Data of_rows K each_types → sizing N each_types of_rows ≡ Ok nodes → Program_sized N each_types nodes each_homes of_rows
 each_rules nodes t e = (program_sizing_meets_rules N each_types each_homes K kind.Data of_rows nodes (omega arith) each_plain t e).0
+
+-- ---- an application that gives a function of rows: `def f xs ys = ys` and `def main xs yss = map (f xs) yss`
+
+abbrev second : FlatTerm
+second = Lambda (pattern_and (Bound_pattern (b 1)) (pattern_and (Bound_pattern (b 2)) no_pattern)) (named 2)
+
+abbrev each_with : FlatTerm
+each_with = Lambda (pattern_and (Bound_pattern (b 4)) (pattern_and (Bound_pattern (b 5)) no_pattern)) (Apply (Apply (primitive prim.Map) (Apply (named 0) (named 4))) (named 5))
+
+abbrev with_first : List Defined
+with_first = record { name = Bound_pattern (b 0); parameters = []; value = second } ∷ record { name = Bound_pattern (b 3); parameters = []; value = each_with } ∷ []
+
+-- 0 to 4 are those of f, 5 to 15 those of main: 9 is the application of `map`, 12 that of f
+abbrev with_types : Sub
+with_types n = cond (is_any (0 ∷ 1 ∷ 13 ∷ []) n) (fun_ty (array_ty i64_ty) (fun_ty (array_ty i64_ty) (array_ty i64_ty))) (cond (is_any (5 ∷ 6 ∷ []) n) (fun_ty (array_ty i64_ty) (fun_ty rows rows)) (cond (is_any (8 ∷ 9 ∷ 15 ∷ []) n) rows (cond (nat_eq n 10) (fun_ty rows rows) (cond (nat_eq n 11) (fun_ty (fun_ty (array_ty i64_ty) (array_ty i64_ty)) (fun_ty rows rows)) (cond (nat_eq n 12) (fun_ty (array_ty i64_ty) (array_ty i64_ty)) (array_ty i64_ty))))))
+
+abbrev with_homes : ℕ → ℕ
+with_homes n = cond (nat_eq n 0) 0 (cond (nat_eq n 1) 2 (cond (nat_eq n 2) 3 (cond (nat_eq n 3) 5 (cond (nat_eq n 4) 7 8))))
+
+with_plain : Plain_definitions with_types with_homes K kind.Data N with_first 0
+unfolding Formed_type Formed_types rank least
+with_plain = (
+  (refl, inl (tt, (tt, (tt, tt)), tt, headed_none with_types with_homes K kind.Data N second tt 1, ((refl, tt, omega arith, (refl, tt, omega arith, tt)), inl refl))),
+  ((refl, inl (tt, (tt, (tt, tt)), tt, headed_none with_types with_homes K kind.Data N each_with tt 6, ((refl, tt, omega arith, (refl, tt, omega arith, tt)), (inl (omega arith), (inl (omega arith, (inr (inr (refl, inr (omega arith, inl (omega arith)), tt)), (inr (inl tt), (inl (omega arith, (refl, refl)), inl refl)))), inl refl))))), tt),
+)
+
+its_with : then_do (sizing N with_types with_first) (λ s. Ok (s 5)) ≡ Ok (Fun 1 (Level (Bound 0 0) (scalar_size (scalar.Int int.I64))) (Fun 2 (Level (Bound 0 0) (Level (Bound 0 1) (scalar_size (scalar.Int int.I64)))) (Level (Bound 0 0) (Level (Bound 0 1) (scalar_size (scalar.Int int.I64))))))
+unfolding agree all_agree kept all_kept leaving type_levels all_type_levels of_type of_types all_settled parts_settled data_met functions_met all_matched applied collected all_collected sizes_in function_size chosen_in quantified closed filled all_filled read all_read opened_inside compared all_compared meet all_meet elements_agree slice_size indexed updated operation sized_type prim_size sizing type_of type_in instance instances used taken all_taken fields_taken bound_by erased all_erased is_free is_dim levels all_levels levels_within all_levels_within replaced all_replaced has some_has takes some_takes is_open some_open matched lacking all_lacking differing all_differing turns_from pattern_noted patterns_noted fields_noted sized all_sized turns_sized condition_sized right_sized inner_sized part_of changed_part has_sizes all_have_sizes fields_have_sizes with_sizes all_with_sizes fields_with_sizes ascribed coerced coercion parameter_size declared
+its_with = refl
+
+with_rules : (nodes : ℕ → Size) → Program_typed N kind.Data with_first K with_types → sizing N with_types with_first ≡ Ok nodes → Program_sized N with_types nodes with_homes with_first
+with_rules nodes t e = (program_sizing_meets_rules N with_types with_homes K kind.Data with_first nodes (omega arith) with_plain t e).0
 
 -- ---- a definition that is a number, and one that takes it as a size: `def n = 10` and `def main x = 0..<n`
 
@@ -472,7 +533,7 @@ firsts_plain = (
         headed_none first_types first_homes K kind.Data N map_first tt 6,
         (
           (refl, tt, omega arith, tt),
-          (inl (omega arith), (inl (omega arith, (inr (inl (refl, ((tt, tt), inl (omega arith)), tt)), (inr tt, (inl (omega arith, (refl, refl)), ((scalar.Int int.I64, refl), tt))))), (inl (omega arith), (inl (omega arith, tt), inl refl)))),
+          (inl (omega arith), (inl (omega arith, (inr (inl (refl, ((tt, tt), inl (omega arith)), tt)), (inr (inl tt), (inl (omega arith, (refl, refl)), ((scalar.Int int.I64, refl), tt))))), (inl (omega arith), (inl (omega arith, tt), inl refl)))),
         ),
       ),
     ),

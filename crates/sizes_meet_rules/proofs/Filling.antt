@@ -42,6 +42,21 @@ unfoldable pub lambda_holes : Size → Variable → Bool
 lambda_holes (Fun k p r) v = (is_arrow p && function_holes p v) || lambda_holes r v
 lambda_holes t v = false
 
+-- the variables of the parameters that are data, as far as there are arguments
+abbrev pub taken_holes : List Given → Size → Variable → Bool
+taken_holes (g ∷ gs) (Fun k p r) v = has_hole p v || taken_holes gs r v
+taken_holes gs t v = false
+
+-- behind these arguments
+abbrev pub rest_of : List Given → Size → Size
+rest_of (g ∷ gs) (Fun k p r) = rest_of gs r
+rest_of gs t = t
+
+-- no function is left, and all variables of data stand in what is given
+pub record Rest_fine (gs : List Given) (t : Size) : Type 0 where
+  pub no_lambda : (v : Variable) → lambda_holes (rest_of gs t) v ≡ false
+  pub covers : (v : Variable) → data_holes t v ≡ true → taken_holes gs t v ≡ true
+
 -- arguments of data, in which these sizes and variables stand
 abbrev pub Data_fit : (Free → Type 0) → (Variable → Type 0) → Given → Type 0
 Data_fit P Vars g = Data g.size × Formed g.size × Each (Scoped P) 0 g.size × Each_hole Vars g.size
@@ -416,9 +431,9 @@ module _ (n : ℕ) (types : Variable → Ty) (P : Free → Type 0) (settled : (d
 
   -- ---- all arguments
 
-  -- a function of that many arguments, of data of these types or functions, which gives data
+  -- a function of that many arguments, of data of these types or functions
   abbrev pub Arrows : List Given → Size → Type 0
-  Arrows [] t = Data t
+  Arrows [] t = Unit {0}
   Arrows (g ∷ gs) (Fun k p r) = (((Data p × (erased (opened p) ≡ erased g.size)) × Data_fit P Vars g) ⊎ ((is_function g.size ≡ true) × (is_arrow p ≡ true))) × Arrows gs r
   Arrows (g ∷ gs) t = ⊥
 
@@ -442,13 +457,13 @@ module _ (n : ℕ) (types : Variable → Ty) (P : Free → Type 0) (settled : (d
       pub taking : Taking τ
       pub stays : Stays before τ
       pub slots : Slots P settled before → Slots P settled τ
-      pub data_taken : (v : Variable) → data_holes t v ≡ true → Taken_at τ v
+      pub data_taken : (v : Variable) → taken_holes gs t v ≡ true → Taken_at τ v
       pub given : (Θ : Variable → Size) (υ : Found) → Agrees Θ τ → Same before υ → Given_met τ (data_met (wants lo gs φ (given_types Θ t) σ) υ)
 
     -- one argument of data more
     data_more : (g : Given) (gs : List Given) (φ : Opened) (k : ℕ) (p r : Size) (σ before τ : Found) → Data p → erased (opened p) ≡ erased g.size → Data_fit P Vars g → Formed p → Each_hole Is_inferred p → Taking before → data_met (wants lo (g ∷ gs) φ (opened (Fun k p r)) σ) before ≡ Ok τ
         → ((first : Found) → Taking first → data_met (wants lo gs (opened_by lo gs g σ k φ) (opened r) (after lo gs g σ k)) first ≡ Ok τ → Chain_as gs (opened_by lo gs g σ k φ) r (after lo gs g σ k) first τ) → Chain_as (g ∷ gs) φ (Fun k p r) σ before τ
-    unfolding data_met instance with_types data_holes
+    unfolding data_met instance with_types
     data_more g gs φ k p r σ before τ dp same w fp hp c q go =
         let ψ = opened_by lo gs g σ k φ in
         let now : then_do (meet (here lo gs) data_way g.node ψ (opened p) none_opened g.size (made_at (here lo gs) before)) (λ found. data_met (wants lo gs ψ (opened r) (after lo gs g σ k)) found) ≡ Ok τ =
@@ -472,14 +487,14 @@ module _ (n : ℕ) (types : Variable → Ty) (P : Free → Type 0) (settled : (d
               };
         }
       where
-        by_place : (first : Found) → Stays first τ → ((v : Variable) → data_holes r v ≡ true → Taken_at τ v) → ((v : Variable) → has_hole p v ≡ true → Taken_at first v) → (v : Variable) (b : Bool) → has_hole p v ≡ b → b || data_holes r v ≡ true → Taken_at τ v
+        by_place : (first : Found) → Stays first τ → ((v : Variable) → taken_holes gs r v ≡ true → Taken_at τ v) → ((v : Variable) → has_hole p v ≡ true → Taken_at first v) → (v : Variable) (b : Bool) → has_hole p v ≡ b → b || taken_holes gs r v ≡ true → Taken_at τ v
         by_place first stays later there v true z e = stays_taken first τ stays v (there v z)
         by_place first stays later there v false z e = later v e
 
     -- a function is matched later
     function_more : (g : Given) (gs : List Given) (φ : Opened) (k : ℕ) (p r : Size) (σ before τ : Found) → is_function g.size ≡ true → is_arrow p ≡ true → data_met (wants lo (g ∷ gs) φ (opened (Fun k p r)) σ) before ≡ Ok τ
         → (data_met (wants lo gs (opened_by lo gs g σ k φ) (opened r) (after lo gs g σ k)) before ≡ Ok τ → Chain_as gs (opened_by lo gs g σ k φ) r (after lo gs g σ k) before τ) → Chain_as (g ∷ gs) φ (Fun k p r) σ before τ
-    unfolding data_met instance with_types data_holes
+    unfolding data_met instance with_types
     function_more g gs φ k p r σ before τ f ar q go =
         let ψ = opened_by lo gs g σ k φ in
         let R = go (ap (λ b. then_do (cond b (Ok before) (meet (here lo gs) data_way g.node ψ (opened p) none_opened g.size (made_at (here lo gs) before))) (λ found. data_met (wants lo gs ψ (opened r) (after lo gs g σ k)) found)) (sym f) ∙ q) in
@@ -487,7 +502,7 @@ module _ (n : ℕ) (types : Variable → Ty) (P : Free → Type 0) (settled : (d
           taking = R.taking;
           stays = R.stays;
           slots = R.slots;
-          data_taken = λ v e. R.data_taken v (ap (λ b. b || data_holes r v) (sym (no_hole p v ar)) ∙ e);
+          data_taken = λ v e. R.data_taken v (ap (λ b. b || taken_holes gs r v) (sym (no_hole p v ar)) ∙ e);
           given = λ Θ υ b s.
               let D = R.given Θ υ b s in
               record {
@@ -498,21 +513,14 @@ module _ (n : ℕ) (types : Variable → Ty) (P : Free → Type 0) (settled : (d
         }
 
     pub chain_as : (gs : List Given) (φ : Opened) (t : Size) (σ before τ : Found) → Arrows gs t → Formed t → Each_hole Is_inferred t → Taking before → data_met (wants lo gs φ (opened t) σ) before ≡ Ok τ → Chain_as gs φ t σ before τ
-    unfolding data_met instance with_types Formed Each_hole data_holes Data
+    unfolding data_met instance with_types Formed Each_hole Data
     chain_as [] φ t σ before τ a f h c q = subst (λ (x : Found). Chain_as [] φ t σ before x) (same_ok q) (record {
       taking = c;
       stays = λ v e. refl;
       slots = λ s. s;
-      data_taken = λ v e. absurd (none_there t v a e);
+      data_taken = λ v e. absurd (let z : false ≡ true = e in cc);
       given = λ Θ υ b s. record { found = υ; answer = refl; same = s };
     })
-      where
-        none_there : (t : Size) (v : Variable) → Data t → data_holes t v ≡ true → ⊥
-        none_there (Hole y) v d e = let z : false ≡ true = e in cc
-        none_there (Open m y u) v d e = let z : false ≡ true = e in cc
-        none_there (Level l x) v d e = let z : false ≡ true = e in cc
-        none_there (Built b ts) v d e = let z : false ≡ true = e in cc
-        none_there (Fun k p r) v d e = d
     chain_as (g ∷ gs) φ (Fun k p r) σ before τ (inl d, a) f h c q = data_more g gs φ k p r σ before τ d.0.0 d.0.1 d.1 f.0 h.0 c q (λ first k1 rest. chain_as gs (opened_by lo gs g σ k φ) r (after lo gs g σ k) first τ a f.1 h.1 k1 rest)
     chain_as (g ∷ gs) φ (Fun k p r) σ before τ (inr d, a) f h c q = function_more g gs φ k p r σ before τ d.0 d.1 q (λ rest. chain_as gs (opened_by lo gs g σ k φ) r (after lo gs g σ k) before τ a f.1 h.1 c rest)
     chain_as (g ∷ gs) φ (Hole v) σ before τ a f h c q = absurd a

@@ -22,7 +22,7 @@ use Rattle.fut_sizes.specs.Steps.{State, Done}
 use Rattle.fut_sizes.specs.Suiting.{Free_of, suits_same}
 use Rattle.sizes_meet_rules.specs.Known.{Says, Known_name, Judged}
 use Rattle.sizes_meet_rules.proofs.Chains.{Given, Waiting_given, Named_given, last_slots, here, arguments, arrows_of, Takes_all, Has_arrows, Widths, takes_arrows, All_kinds, data_kinds as kinds_of_data, last_found, no_function_met, Steps_ran, Matched_ran, steps_ran, data_ran}
-use Rattle.sizes_meet_rules.proofs.Filling.{data_holes, lambda_holes, Taken_at, Agrees, stays_taken, Arrows, none_taken, Chain_as, chain_as}
+use Rattle.sizes_meet_rules.proofs.Filling.{data_holes, lambda_holes, Rest_fine, Taken_at, Agrees, stays_taken, Arrows, none_taken, Chain_as, chain_as}
 use Rattle.sizes_meet_rules.proofs.Alike.{Behind_data, Given_ran, given_ran}
 use Rattle.sizes_meet_rules.proofs.Lambdas.{wanted_of, found_behind, Wants_formed, Lambda_result, All_data_given, One_given, given_data, one_kinds, Kinds_taken, data_kinds, kinds_take, One_lambda, Lambda_met, lambda_ran, One_wide, wide_wants, wide_ran}
 use Rattle.sizes_meet_rules.proofs.Choosing.{Name_says}
@@ -104,7 +104,7 @@ module _ (N : Names) (types : Sub) (home : ℕ → ℕ) (K : Kinds) where
             M = data_ran n N types P regular gs H.name.size st u has (given_data P Vars K types n gs D)
                 (steps_ran n N types regular gs H.name.size st u has (kinds_of_data n gs (given_data P Vars K types n gs D)) (ap (λ t. finished N types n (Applied t regular (arguments gs)) st) (sym H.whole_is) ∙ ran))
 
-        module _ (H : Primitive_head) (result_data : 1 ≤ rank K result) where
+        module _ (H : Primitive_head) (fine : Rest_fine gs (prim_size H.primitive)) where
           abbrev there : Variable → Ty
           there = types_there H.node H.primitive type H.given H.typed
 
@@ -162,7 +162,7 @@ module _ (N : Names) (types : Sub) (home : ℕ → ℕ) (K : Kinds) where
                 slots = λ i. inl refl;
                 later = omega arith;
                 makers = λ i l. refl;
-                taken = hole_as (λ v. parameter_holes prim_there v ≡ true) (λ v. Taken_at H.node there P settled Vars R.first v) (λ v e. C.data_taken v (of_data (data_holes prim_there v) (ap (λ b. data_holes prim_there v || b) (sym (none v)) ∙ e))) prim_there ok.covers;
+                taken = hole_as (λ v. parameter_holes prim_there v ≡ true) (λ v. Taken_at H.node there P settled Vars R.first v) (λ v e. C.data_taken v (fine.covers v (of_data (data_holes prim_there v) (ap (λ b. data_holes prim_there v || b) (sym (none v)) ∙ e)))) prim_there ok.covers;
               }
                 where
                   of_data : (b : Bool) → b || false ≡ true → b ≡ true
@@ -192,32 +192,32 @@ module _ (N : Names) (types : Sub) (home : ℕ → ℕ) (K : Kinds) where
                 }
                   where
                     by_place : (v : Variable) (b : Bool) → data_holes prim_there v ≡ b → b || lambda_holes prim_there v ≡ true → Taken_at H.node there P settled Vars R.last.result v
-                    by_place v true z e = stays_taken H.node there P settled Vars R.first R.last.result L.stays v (C.data_taken v z)
+                    by_place v true z e = stays_taken H.node there P settled Vars R.first R.last.result L.stays v (C.data_taken v (fine.covers v z))
                     by_place v false z e = L.taken v e
 
                 lambda_given : One_lambda H.node there P settled Vars K types Went st after n (data_holes prim_there) (is_regular H.primitive) gs prim_there → Resolved Ends_there
                 lambda_given o = as_given Ends_there (lambda_behind L) L.is (L.went, L.state)
                   where
                     L : Lambda_met H.node there P settled Vars K types Went st after n (data_holes prim_there) (is_regular H.primitive) gs prim_there R.first R.last
-                    L = lambda_ran H.node there P settled Vars K types Went st after n (data_holes prim_there) (is_regular H.primitive) gs none_opened prim_there nothing_found R.first R.last o has C.taking C.data_taken R.functions
+                    L = lambda_ran H.node there P settled Vars K types Went st after n (data_holes prim_there) (is_regular H.primitive) gs none_opened prim_there nothing_found R.first R.last o has C.taking (λ v z. C.data_taken v (fine.covers v z)) R.functions
 
           primitive_data : All_data_given P Vars K types gs → Resolved Stays_there
           primitive_data D =
-              let A = prim_data H.node H.primitive type H.given H.typed P settled Vars K H.kinds types gs result result_data arrows D in
+              let A = prim_data H.node H.primitive type H.given H.typed P settled Vars K H.kinds types gs result fine arrows D in
               data_given A.0 (steps A.0 (kinds_of_data n gs (given_data P Vars K types n gs D))) D A.1
 
           pub primitive_lambda : (Went : Type 0) (after : State) → One_given P Vars K types Went st after gs → Resolved (λ s. Went × (s ≡ after))
           primitive_lambda Went after D =
-              let A = prim_lambda H.node H.primitive type H.given H.typed P settled Vars K H.kinds types gs result result_data arrows Went st after n D in
+              let A = prim_lambda H.node H.primitive type H.given H.typed P settled Vars K H.kinds types gs result fine arrows Went st after n D in
               lambda_given A.0 (steps A.0 (one_kinds P Vars K types Went st after gs D)) Went after A.1
 
-        pub resolved : (Primitive_head → 1 ≤ rank K result) → All_data_given P Vars K types gs → Head → Resolved Stays_there
+        pub resolved : ((H : Primitive_head) → Rest_fine gs (prim_size H.primitive)) → All_data_given P Vars K types gs → Head → Resolved Stays_there
         resolved is_data D (inl H) = named_resolved D H
         resolved is_data D (inr H) = primitive_data H (is_data H) D
 
     -- a primitive applied to a name, which is used at the sizes that are wanted of it, and to data
     module _ (P : Free → Type 0) (wide : (d : Free) → In d → P d) (settled : (d : Free) → P d → is_slot d ≡ false) (n : ℕ) (x : Given) (gs : List Given) (st : State) (u : Done Size)
-        (result : Ty) (arrows : type ≡ arrows_of types (x ∷ gs) result) (widths : Widths (x ∷ gs) whole) (ran : finished N types n (Applied whole regular (arguments (x ∷ gs))) st ≡ Ok u) (H : Primitive_head) (result_data : 1 ≤ rank K result) where
+        (result : Ty) (arrows : type ≡ arrows_of types (x ∷ gs) result) (widths : Widths (x ∷ gs) whole) (ran : finished N types n (Applied whole regular (arguments (x ∷ gs))) st ≡ Ok u) (H : Primitive_head) (fine : Rest_fine (x ∷ gs) (prim_size H.primitive)) where
       abbrev there_types : Variable → Ty
       there_types = types_there H.node H.primitive type H.given H.typed
 
@@ -226,27 +226,27 @@ module _ (N : Names) (types : Sub) (home : ℕ → ℕ) (K : Kinds) where
 
       pub primitive_named : (V : Named_given x) → (a c : Ty) → types x.node ≡ fun_ty a c → All_data_given P Vars K types gs → Name_says P Vars 0 V.own → erased V.own ≡ types x.node → x.size ≡ named_size H.node there_types (prim_size H.primitive) (named_found n (is_regular H.primitive) x V.own gs there_size)
           → ((b : ℕ) → P (Unknown (here n gs) b) → ⊥) → (fn fm : ℕ) → (fn ≡ fm → ⊥) → ((d : Free) → P d → Free_of fn d × Free_of fm d) → Resolved P wide settled n (x ∷ gs) st u (λ s. Used_as P Vars V.own x.size × (s ≡ st))
-      primitive_named V a c is D says own_typed size_is apart fn fm two fresh = as_given P wide settled n (x ∷ gs) st u result arrows widths ran H result_data A.0 R (λ s. Used_as P Vars V.own x.size × (s ≡ st)) (lambda_behind P wide settled n (x ∷ gs) st u result arrows widths ran H result_data A.0 R (Used_as P Vars V.own x.size) st L) L.is (L.went, L.state)
+      primitive_named V a c is D says own_typed size_is apart fn fm two fresh = as_given P wide settled n (x ∷ gs) st u result arrows widths ran H fine A.0 R (λ s. Used_as P Vars V.own x.size × (s ≡ st)) (lambda_behind P wide settled n (x ∷ gs) st u result arrows widths ran H fine A.0 R (Used_as P Vars V.own x.size) st L) L.is (L.went, L.state)
         where
           A : Arrows H.node there_types P settled Vars (x ∷ gs) (prim_size H.primitive) × One_wide H.node there_types P settled Vars K types (Used_as P Vars V.own x.size) st st n (data_holes (prim_size H.primitive)) (is_regular H.primitive) (x ∷ gs) (prim_size H.primitive)
-          A = prim_wide H.node H.primitive type H.given H.typed P settled Vars K H.kinds types x gs result result_data arrows (Used_as P Vars V.own x.size) st st n V.is_fun a c is D
+          A = prim_wide H.node H.primitive type H.given H.typed P settled Vars K H.kinds types x gs result fine arrows (Used_as P Vars V.own x.size) st st n V.is_fun a c is D
 
           kinds : All_kinds (x ∷ gs)
           kinds = (inr (inr V), kinds_of_data n gs (given_data P Vars K types n gs D))
 
           R : Steps_ran n N types (is_regular H.primitive) (x ∷ gs) there_size st u
-          R = steps P wide settled n (x ∷ gs) st u result arrows widths ran H result_data A.0 kinds
+          R = steps P wide settled n (x ∷ gs) st u result arrows widths ran H fine A.0 kinds
 
           C : Chain_as H.node there_types P settled Vars n (x ∷ gs) none_opened (prim_size H.primitive) nothing_found (last_found n (x ∷ gs) there_size nothing_found) R.first
           C = chain_as H.node there_types P settled Vars n (x ∷ gs) none_opened (prim_size H.primitive) nothing_found (last_found n (x ∷ gs) there_size nothing_found) R.first A.0 (prim_ok H.primitive).formed (prim_ok H.primitive).inferred (none_taken H.node there_types P settled Vars n (x ∷ gs) there_size nothing_found (λ v. inl refl)) R.met
 
           L : Lambda_met H.node there_types P settled Vars K types (Used_as P Vars V.own x.size) st st n (data_holes (prim_size H.primitive)) (is_regular H.primitive) (x ∷ gs) (prim_size H.primitive) R.first R.last
           L = named_ran H.node there_types P settled Vars K types (Used_as P Vars V.own x.size) st n (data_holes (prim_size H.primitive)) (is_regular H.primitive) x gs V (λ h. h) says own_typed a c is apart fn fm two fresh (prim_size H.primitive) R.first R.last size_is A.1
-              (has P wide settled n (x ∷ gs) st u result arrows widths ran H result_data A.0) C.taking (C.slots (last_slots n P P settled settled (x ∷ gs) there_size nothing_found (λ i. inl refl))) C.data_taken R.met R.functions
+              (has P wide settled n (x ∷ gs) st u result arrows widths ran H fine A.0) C.taking (C.slots (last_slots n P P settled settled (x ∷ gs) there_size nothing_found (λ i. inl refl))) (λ v z. C.data_taken v (fine.covers v z)) R.met R.functions
 
     -- a primitive applied to a lambda, which takes the parameters that are wanted of it, and to data, in which fewer sizes may stand
     module _ (P : Free → Type 0) (wide : (d : Free) → In d → P d) (settled : (d : Free) → P d → is_slot d ≡ false) (P' : Free → Type 0) (settled' : (d : Free) → P' d → is_slot d ≡ false) (n : ℕ) (x : Given) (gs : List Given) (st : State) (u : Done Size)
-        (result : Ty) (arrows : type ≡ arrows_of types (x ∷ gs) result) (widths : Widths (x ∷ gs) whole) (ran : finished N types n (Applied whole regular (arguments (x ∷ gs))) st ≡ Ok u) (H : Primitive_head) (result_data : 1 ≤ rank K result) where
+        (result : Ty) (arrows : type ≡ arrows_of types (x ∷ gs) result) (widths : Widths (x ∷ gs) whole) (ran : finished N types n (Applied whole regular (arguments (x ∷ gs))) st ≡ Ok u) (H : Primitive_head) (fine : Rest_fine (x ∷ gs) (prim_size H.primitive)) where
       abbrev types_of : Variable → Ty
       types_of = types_there H.node H.primitive type H.given H.typed
 
@@ -259,19 +259,19 @@ module _ (N : Names) (types : Sub) (home : ℕ → ℕ) (K : Kinds) where
       pub primitive_wide : (Went : Type 0) (after : State) → (V : Waiting_given x) → (a c : Ty) → types x.node ≡ fun_ty a c → All_data_given P Vars K types gs → All_data_given P' Vars K types gs
           → ((before : Found) (m : Done Met) → found_behind n x gs opened_there ≡ Ok before → Wants_formed P' K (want_there before).size × (erased (want_there before).size ≡ types x.node) → V.waiting (Some (want_there before)) (made_at (here n gs) before) st ≡ Ok m → Lambda_result P Vars Went after x (types x.node) (want_there before) (made_at (here n gs) before) m)
           → Resolved P wide settled n (x ∷ gs) st u (λ s. Went × (s ≡ after))
-      primitive_wide Went after V a c is D D' run = as_given P wide settled n (x ∷ gs) st u result arrows widths ran H result_data A.0 R (λ s. Went × (s ≡ after)) (lambda_behind P wide settled n (x ∷ gs) st u result arrows widths ran H result_data A.0 R Went after L) L.is (L.went, L.state)
+      primitive_wide Went after V a c is D D' run = as_given P wide settled n (x ∷ gs) st u result arrows widths ran H fine A.0 R (λ s. Went × (s ≡ after)) (lambda_behind P wide settled n (x ∷ gs) st u result arrows widths ran H fine A.0 R Went after L) L.is (L.went, L.state)
         where
           A : Arrows H.node types_of P settled Vars (x ∷ gs) (prim_size H.primitive) × One_wide H.node types_of P settled Vars K types Went st after n (data_holes (prim_size H.primitive)) (is_regular H.primitive) (x ∷ gs) (prim_size H.primitive)
-          A = prim_wide H.node H.primitive type H.given H.typed P settled Vars K H.kinds types x gs result result_data arrows Went st after n V.is_fun a c is D
+          A = prim_wide H.node H.primitive type H.given H.typed P settled Vars K H.kinds types x gs result fine arrows Went st after n V.is_fun a c is D
 
           A' : Arrows H.node types_of P' settled' Vars (x ∷ gs) (prim_size H.primitive) × One_wide H.node types_of P' settled' Vars K types Went st after n (data_holes (prim_size H.primitive)) (is_regular H.primitive) (x ∷ gs) (prim_size H.primitive)
-          A' = prim_wide H.node H.primitive type H.given H.typed P' settled' Vars K H.kinds types x gs result result_data arrows Went st after n V.is_fun a c is D'
+          A' = prim_wide H.node H.primitive type H.given H.typed P' settled' Vars K H.kinds types x gs result fine arrows Went st after n V.is_fun a c is D'
 
           kinds : All_kinds (x ∷ gs)
           kinds = (inr (inl V), kinds_of_data n gs (given_data P Vars K types n gs D))
 
           R : Steps_ran n N types (is_regular H.primitive) (x ∷ gs) opened_there st u
-          R = steps P wide settled n (x ∷ gs) st u result arrows widths ran H result_data A.0 kinds
+          R = steps P wide settled n (x ∷ gs) st u result arrows widths ran H fine A.0 kinds
 
           C : Chain_as H.node types_of P settled Vars n (x ∷ gs) none_opened (prim_size H.primitive) nothing_found (last_found n (x ∷ gs) opened_there nothing_found) R.first
           C = chain_as H.node types_of P settled Vars n (x ∷ gs) none_opened (prim_size H.primitive) nothing_found (last_found n (x ∷ gs) opened_there nothing_found) R.first A.0 (prim_ok H.primitive).formed (prim_ok H.primitive).inferred (none_taken H.node types_of P settled Vars n (x ∷ gs) opened_there nothing_found (λ v. inl refl)) R.met
@@ -280,7 +280,7 @@ module _ (N : Names) (types : Sub) (home : ℕ → ℕ) (K : Kinds) where
           C' = chain_as H.node types_of P' settled' Vars n (x ∷ gs) none_opened (prim_size H.primitive) nothing_found (last_found n (x ∷ gs) opened_there nothing_found) R.first A'.0 (prim_ok H.primitive).formed (prim_ok H.primitive).inferred (none_taken H.node types_of P' settled' Vars n (x ∷ gs) opened_there nothing_found (λ v. inl refl)) R.met
 
           W : Wants_formed P' K (want_there R.first).size × (erased (want_there R.first).size ≡ types x.node)
-          W = wide_wants H.node types_of P' settled' Vars K types Went st after n (data_holes (prim_size H.primitive)) (is_regular H.primitive) x gs (prim_size H.primitive) R.first A'.1 C'.taking C'.data_taken
+          W = wide_wants H.node types_of P' settled' Vars K types Went st after n (data_holes (prim_size H.primitive)) (is_regular H.primitive) x gs (prim_size H.primitive) R.first A'.1 C'.taking (λ v z. C'.data_taken v (fine.covers v z))
 
           L : Lambda_met H.node types_of P settled Vars K types Went st after n (data_holes (prim_size H.primitive)) (is_regular H.primitive) (x ∷ gs) (prim_size H.primitive) R.first R.last
-          L = wide_ran H.node types_of P settled Vars K types Went st after n (data_holes (prim_size H.primitive)) (is_regular H.primitive) x gs (prim_size H.primitive) R.first R.last V (λ m b z. run R.first m b W z) A.1 (has P wide settled n (x ∷ gs) st u result arrows widths ran H result_data A.0) C.taking C.data_taken R.met R.functions
+          L = wide_ran H.node types_of P settled Vars K types Went st after n (data_holes (prim_size H.primitive)) (is_regular H.primitive) x gs (prim_size H.primitive) R.first R.last V (λ m b z. run R.first m b W z) A.1 (has P wide settled n (x ∷ gs) st u result arrows widths ran H fine A.0) C.taking (λ v z. C.data_taken v (fine.covers v z)) R.met R.functions

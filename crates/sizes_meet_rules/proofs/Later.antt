@@ -13,7 +13,7 @@ use Rattle.fut_typing.specs.Names.{Names}
 use Rattle.fut_typing.specs.Patterns.{pattern_types, arrows}
 use Rattle.sized_types.specs.Sizes.{Free, Variable, Size, Hole, Open, Level, Built, Fun, no_size, erased, all_erased}
 use Rattle.fut_sizes.specs.Agreeing.{Answer}
-use Rattle.fut_sizes.specs.Applications.{Want, Met, Argument, Late, is_function}
+use Rattle.fut_sizes.specs.Applications.{Want, Met, Argument, Early, Late, is_function}
 use Rattle.fut_sizes.specs.Matching.{Found, nothing_found, none_opened, function_way, meet}
 use Rattle.fut_sizes.specs.Scopes.{Scope}
 use Rattle.fut_sizes.specs.Steps.{State, Done, Step}
@@ -26,7 +26,7 @@ use Rattle.sizes_meet_rules.proofs.Flat_types.{flat, flat_is}
 use Rattle.sizes_meet_rules.proofs.Lambdas.{Early_function, One_given, Waiting_fit, Lambda_result, Wants_formed}
 use Rattle.sizes_meet_rules.proofs.Meeting.{each_scoped, With_met, met_wider, Flat_wanted, Data_wanted, Lambda_wanted, Lambda_typed, As_alone, Meets, inner_of}
 use Rattle.sizes_meet_rules.proofs.Noting.{Placed, placed_order}
-use Rattle.sizes_meet_rules.proofs.Parts.{spine, given_inner, Given_meets, given_wider, Function_meets, given_in, Lambda_waits, All_given, One_waits, All_parts, Later_part, one_fit, all_fit}
+use Rattle.sizes_meet_rules.proofs.Parts.{spine, Early_given, given_inner, given_meets_as, Given_meets, given_wider, Function_meets, given_in, Lambda_waits, All_given, One_waits, All_parts, Later_part, one_fit, all_fit}
 
 -- ---- functions of these parameters
 
@@ -75,7 +75,7 @@ own_state st (Ok m) = m.state
 own_state st (Err r) = st
 
 abbrev pub with_size : Given → Size → Given
-with_size g t = record { node = g.node; value = g.value; named = g.named; size = t; term = g.term; width = g.width; waits = g.waits }
+with_size g t = record { node = g.node; value = g.value; named = g.named; size = t; own = t; term = g.term; width = g.width; waits = g.waits }
 
 with_argument : (g : Given) (t : Size) (f : Argument) → g.waits ≡ Some f → argument_by g.waits (with_size g t) ≡ argument_by g.waits g
 with_argument g t f e = ap (λ o. argument_by o (with_size g t)) e ∙ ap (λ o. argument_by o g) (sym e)
@@ -142,7 +142,7 @@ module _ (N : Names) (types : Sub) (home : ℕ → ℕ) (K : Kinds) (places : Ki
         let M = meets_alone m e in
         let known = lambda_argument g.term (types g.node) L.waits.is_lambda in
         given_wider N types home K places data_places In Vars scope (g.node + numbers g.term) hi now_sized A behind l
-        (record { value_is = inl L.value; inner = given_inner N types home K places data_places In Vars scope now_sized A behind (inner_of N types home In Vars scope g.term g.node (g.node + numbers g.term) A (own_size alone) behind M); noted = λ z. M.here; value_known = known })
+        (given_meets_as N types home K places data_places In Vars scope (g.node + numbers g.term) now_sized A behind refl (inl L.value) (given_inner N types home K places data_places In Vars scope now_sized A behind refl (inner_of N types home In Vars scope g.term g.node (g.node + numbers g.term) A (own_size alone) behind M)) (λ z. M.here) known)
 
     own_function : is_function (own_size alone) ≡ true
     own_function = by_answer alone refl
@@ -254,7 +254,7 @@ module _ (N : Names) (types : Sub) (home : ℕ → ℕ) (K : Kinds) (places : Ki
   one_parts from hi [] st A h p w = absurd h
   one_parts from hi (g ∷ gs) st A (inl h) p w = (h.0, (inl (h.1.0.0, h.1.0.1.1), one_parts (from + numbers g.term) hi gs h.0 A h.1.1 p.1 w))
   one_parts from hi (g ∷ gs) st A (inr (inr h)) p w = (h.0, (inl (h.1.0.0, h.1.0.1.1), data_parts hi A A gs h.0 A h.1.1))
-  one_parts from hi (g ∷ gs) st A (inr (inl h)) p w = (st, (inr (given_meets g h.0 A hi (let y = p.0 in let z = placed_order gs (from + numbers g.term) hi p.1 in omega (arith, y, z)) w.0 w.1, refl), data_parts hi (behind g h.0 A) A gs st A h.1))
+  one_parts from hi (g ∷ gs) st A (inr (inl h)) p w = (st, (inr (inr (given_meets g h.0 A hi (let y = p.0 in let z = placed_order gs (from + numbers g.term) hi p.1 in omega (arith, y, z)) w.0 w.1, refl)), data_parts hi (behind g h.0 A) A gs st A h.1))
 
   -- nothing waits
   pub none_later : (A : State) (gs : List Given) → Later_part N types home K places data_places In Vars scope A A gs
@@ -269,14 +269,15 @@ module _ (N : Names) (types : Sub) (home : ℕ → ℕ) (K : Kinds) (places : Ki
       M : Meets N types home In Vars scope g.term g.node (g.node + numbers g.term) A (own_size (alone g h.0 A)) (behind g h.0 A)
       M = meets_alone g h.0 A w.0 w.1
 
-      not_none : g.waits ≡ None → ⊥
-      not_none e = let z : ◌≡◌ {A = Option Argument} (Some (Late g.node h.0.waits.waiting)) None = sym h.0.waits_is ∙ e in cc
+      not_none : (g.waits ≡ None) ⊎ Early_given N types home K places data_places In Vars scope g → ⊥
+      not_none (inl e) = let z : ◌≡◌ {A = Option Argument} (Some (Late g.node h.0.waits.waiting)) None = sym h.0.waits_is ∙ e in cc
+      not_none (inr w) = let z : ◌≡◌ {A = Option Argument} (Some (Late g.node h.0.waits.waiting)) (Some (Early g.node g.value g.named w.0)) = sym h.0.waits_is ∙ w.1 in cc
 
-      nodes : (x : ℕ) → ((x < g.node) ⊎ (g.node + numbers g.term ≤ x)) ⊎ (g.waits ≡ None) → (behind g h.0 A).nodes x ≡ A.nodes x
+      nodes : (x : ℕ) → ((x < g.node) ⊎ (g.node + numbers g.term ≤ x)) ⊎ ((g.waits ≡ None) ⊎ Early_given N types home K places data_places In Vars scope g) → (behind g h.0 A).nodes x ≡ A.nodes x
       nodes x (inl o) = M.kept x o
       nodes x (inr e) = absurd (not_none e)
 
-      dropped : (x : ℕ) → ((x < g.node) ⊎ (g.node + numbers g.term ≤ x)) ⊎ (g.waits ≡ None) → (behind g h.0 A).dropped x ≡ A.dropped x
+      dropped : (x : ℕ) → ((x < g.node) ⊎ (g.node + numbers g.term ≤ x)) ⊎ ((g.waits ≡ None) ⊎ Early_given N types home K places data_places In Vars scope g) → (behind g h.0 A).dropped x ≡ A.dropped x
       dropped x (inl o) = M.dropped x o
       dropped x (inr e) = absurd (not_none e)
 

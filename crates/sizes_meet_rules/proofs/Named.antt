@@ -1,4 +1,4 @@
--- A function by its name as the first argument of a primitive: it is used at the sizes of data that are wanted of it.
+-- A name or an application as the first argument of a primitive: its function is used at the sizes of data that are wanted of it.
 use Rattle.std.proofs.Common.{◌≡◌, ◌⊎◌, ℕ, ◌≤◌, List, ◌∷◌, Bool, true, false, cond, Ok, Err, refl, sym, ap, ◌∙◌, subst, arith, inl, inr}
 use Rattle.fut_types.specs.declared.Head.TheVariants as head
 use Rattle.fut_types.specs.Types.{Ty, fun_ty, Sub, Kinds}
@@ -29,12 +29,12 @@ abbrev pub named_found : ℕ → Bool → Given → Size → List Given → Size
 named_found lo regular g own gs (Fun k p r) = then_do (found_behind lo g gs (Fun k p r)) (λ before. meet (here lo gs) (function_way regular) g.node (opened_by lo gs g nothing_found k none_opened) p none_opened own (made_at (here lo gs) before))
 named_found lo regular g own gs t = Ok nothing_found
 
-pub same_named : (lo : ℕ) (regular : Bool) (g : Given) (s own : Size) (gs : List Given) (t : Size) → named_found lo regular (record { node = g.node; value = g.value; named = g.named; size = s; term = g.term; width = g.width; waits = g.waits }) own gs t ≡ named_found lo regular g own gs t
-same_named lo regular g s own gs (Fun k p r) = refl
-same_named lo regular g s own gs (Hole v) = refl
-same_named lo regular g s own gs (Open m v u) = refl
-same_named lo regular g s own gs (Level d t) = refl
-same_named lo regular g s own gs (Built h ts) = refl
+pub same_named : (lo : ℕ) (regular : Bool) (g : Given) (s o own : Size) (gs : List Given) (t : Size) → named_found lo regular (record { node = g.node; value = g.value; named = g.named; size = s; own = o; term = g.term; width = g.width; waits = g.waits }) own gs t ≡ named_found lo regular g own gs t
+same_named lo regular g s o own gs (Fun k p r) = refl
+same_named lo regular g s o own gs (Hole v) = refl
+same_named lo regular g s o own gs (Open m v u) = refl
+same_named lo regular g s o own gs (Level d t) = refl
+same_named lo regular g s o own gs (Built h ts) = refl
 
 -- the sized type that is wanted of it, with what variables have taken by then
 abbrev first_of : Size → Size

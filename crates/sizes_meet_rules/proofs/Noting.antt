@@ -220,8 +220,8 @@ module _ (N : Names) (types : Sub) (τ : Found) (n : ℕ) where
   uses_closed (g ∷ gs) φ (Level d t) σ h = tt
   uses_closed (g ∷ gs) φ (Built f ts) σ h = tt
 
-  pub use_here : (b : Bool) (node : ℕ) (value : Option Free) (size : Size) (φ : Opened) (p : Size) (ls : List Later) (s : ℕ → Size) (t : Size) → (b ≡ false → s node ≡ t) → value_of N types τ (record { node = node; size = in_opened φ p }) ≡ t → Right N types τ (with_use (Early node value b size) φ p ls) s → (s node ≡ t) × Right N types τ ls s
-  use_here true node value size φ p ls s t u v r = (r.0 ∙ v, r.1)
+  pub use_here : (b : Bool) (node : ℕ) (value : Option Free) (size : Size) (φ : Opened) (p : Size) (ls : List Later) (s : ℕ → Size) (t : Size) → (b ≡ false → s node ≡ t) → (b ≡ true → value_of N types τ (record { node = node; size = in_opened φ p }) ≡ t) → Right N types τ (with_use (Early node value b size) φ p ls) s → (s node ≡ t) × Right N types τ ls s
+  use_here true node value size φ p ls s t u v r = (r.0 ∙ v refl, r.1)
   use_here false node value size φ p ls s t u v r = (u refl, r)
 
   -- ---- what is read has no slot
@@ -293,12 +293,12 @@ module _ (N : Names) (types : Sub) (τ : Found) (n : ℕ) where
     -- ---- the sized types of all functions and arguments
 
     abbrev pub Stages : List Given → Frames → Size → Found → (ℕ → Size) → Type 0
-    Stages (g ∷ gs) δ (Fun k p r) σ s = (s (suc (here n gs)) ≡ filled (ended δ) 0 (Fun k p r)) × ((filled (ended (pushed (frame (here n gs) σ.next k (number_value g)) δ)) 0 p ≡ g.size) × ((s g.node ≡ g.size) × Stages gs (pushed (frame (here n gs) σ.next k (number_value g)) δ) r (after n gs g σ k) s))
+    Stages (g ∷ gs) δ (Fun k p r) σ s = (s (suc (here n gs)) ≡ filled (ended δ) 0 (Fun k p r)) × ((filled (ended (pushed (frame (here n gs) σ.next k (number_value g)) δ)) 0 p ≡ g.size) × ((s g.node ≡ g.own) × Stages gs (pushed (frame (here n gs) σ.next k (number_value g)) δ) r (after n gs g σ k) s))
     Stages gs δ t σ s = s n ≡ filled (ended δ) 0 t
 
     abbrev pub Unnamed : List Given → (ℕ → Size) → Type 0
     Unnamed [] s = Unit {0}
-    Unnamed (g ∷ gs) s = (g.named ≡ false → s g.node ≡ g.size) × Unnamed gs s
+    Unnamed (g ∷ gs) s = (g.named ≡ false → s g.node ≡ g.own) × Unnamed gs s
 
     module _ (P : Free → Type 0) (settled : (d : Free) → P d → is_slot d ≡ false) where
       -- what one function's positions stand for: each size that is chosen stands in the parameter, and so is found
@@ -333,13 +333,13 @@ module _ (N : Names) (types : Sub) (τ : Found) (n : ℕ) where
 
       -- one argument more
       one_stage_more : (gs : List Given) (g : Given) (φ : Opened) (k : ℕ) (p r : Size) (σ : Found) (ok : ℕ → ℕ → Type 0) (δ : Frames) (framed : Framed φ ok δ) → All_found ok δ → Takes_all (g ∷ gs) (Fun k p r) → Each (Okay In ok) 0 (Fun k p r) → Each (Okay In (more (Meant k g) ok)) 0 p → Formed (Fun k p r) → Each_hole Any_variable (Fun k p r) → Each_hole Any_variable p → Plain_given n In P no_slot settled g
-          → read τ (in_opened (opened_by n gs g σ k φ) p) ≡ g.size → (s : ℕ → Size) → s (suc (here n gs)) ≡ value_of N types τ (record { node = suc (here n gs); size = in_opened φ (Fun k p r) }) → Right N types τ (uses (wants n (g ∷ gs) φ (Fun k p r) σ)) s → (g.named ≡ false → s g.node ≡ g.size)
+          → read τ (in_opened (opened_by n gs g σ k φ) p) ≡ g.size → (s : ℕ → Size) → s (suc (here n gs)) ≡ value_of N types τ (record { node = suc (here n gs); size = in_opened φ (Fun k p r) }) → Right N types τ (uses (wants n (g ∷ gs) φ (Fun k p r) σ)) s → (g.named ≡ false → s g.node ≡ g.own)
           → ((framed' : Framed (opened_by n gs g σ k φ) (more (Meant k g) ok) (pushed (frame (here n gs) σ.next k (number_value g)) δ)) → All_found (more (Meant k g) ok) (pushed (frame (here n gs) σ.next k (number_value g)) δ) → Right N types τ (uses (wants n gs (opened_by n gs g σ k φ) r (after n gs g σ k))) s → Stages gs (pushed (frame (here n gs) σ.next k (number_value g)) δ) r (after n gs g σ k) s)
           → Stages (g ∷ gs) δ (Fun k p r) σ s
       one_stage_more gs g φ k p r σ ok δ framed found h e ep fm o op a reads s noted named unnamed go =
           let framed' : Framed (opened_by n gs g σ k φ) (more (Meant k g) ok) (pushed (frame (here n gs) σ.next k (number_value g)) δ) = push_framed φ ok δ _ (frame (here n gs) σ.next k (number_value g)) (Meant k g) (framed_as (here n gs) σ.next k g) framed in
           let given_settled : Each (Scoped Is_settled) 0 g.size = each_scoped P Is_settled settled g.size 0 a.1 in
-          let argument_here = use_here g.named g.node g.value g.size (opened_by n gs g σ k φ) p (uses (wants n gs (opened_by n gs g σ k φ) r (after n gs g σ k))) s g.size unnamed (ap (quantified τ.maker) reads ∙ none_quantified τ.maker g.size given_settled) named in
+          let argument_here = use_here g.named g.node g.value g.size (opened_by n gs g σ k φ) p (uses (wants n gs (opened_by n gs g σ k φ) r (after n gs g σ k))) s g.own unnamed (λ b. ap (quantified τ.maker) reads ∙ none_quantified τ.maker g.size given_settled ∙ sym (a.3 b)) named in
           let rest = go framed' (found_more gs g φ k p r σ ok δ found framed' h.0 ep fm a reads) argument_here.1 in
           let function_here : s (suc (here n gs)) ≡ filled (ended δ) 0 (Fun k p r) = noted ∙ quantified_as τ.maker (read τ (in_opened φ (Fun k p r))) (settled_parameters (read τ (in_opened φ (Fun k p r))) 0 (settles φ ok δ framed found (Fun k p r) 0 e o))
           ∙ closes In no_slot φ ok δ framed τ (Fun k p r) 0 0 e o in

@@ -28,7 +28,7 @@ use Rattle.sizes_meet_rules.proofs.Choosing.{Data_arrows}
 use Rattle.sizes_meet_rules.proofs.Entering.{param_data}
 use Rattle.sizes_meet_rules.proofs.Forming.{is_i64_ty, i64_ty_is, number_typed, formed_replaced}
 use Rattle.sizes_meet_rules.proofs.Frames.{Okay, more, Frames, pushed, pushed_as, fill, fill_keeps, fill_back, filled, filled_same, opened_filled, filled_says}
-use Rattle.sizes_meet_rules.proofs.Meeting.{order, each_scoped, With_met, met_wider, met_outside, met_settled, elsewhere_narrower, away_of, Inner, Waits, Waits_wide}
+use Rattle.sizes_meet_rules.proofs.Meeting.{order, each_scoped, With_met, met_wider, met_outside, met_settled, elsewhere_narrower, Inner, Waits, Waits_wide}
 use Rattle.sizes_meet_rules.proofs.Naming.{number_name}
 use Rattle.sizes_meet_rules.proofs.Noting.{Placed, placed_order, All_some, Avoids, uses_avoid, one_use, close, ended, Stages, Unnamed}
 use Rattle.sizes_meet_rules.proofs.Operating.{number_is}
@@ -83,10 +83,10 @@ module _ (N : Names) (types : Sub) (home : ℕ → ℕ) (K : Kinds) (places : Ki
       pub typed : erased g.size ≡ types g.node
       pub kept : (n : ℕ) → (n < g.node) ⊎ (g.node + numbers g.term ≤ n) → behind.nodes n ≡ st.nodes n
       pub dropped : (n : ℕ) → (n < g.node) ⊎ (g.node + numbers g.term ≤ n) → behind.dropped n ≡ st.dropped n
-      pub rules : (s : ℕ → Size) (G : Context) → Judged In Vars scope G → s g.node ≡ g.size → ((n : ℕ) → g.node < n → n < g.node + numbers g.term → s n ≡ behind.nodes n) → Sized N types s home g.term g.node G
+      pub rules : (s : ℕ → Size) (G : Context) → Judged In Vars scope G → s g.node ≡ g.own → ((n : ℕ) → g.node < n → n < g.node + numbers g.term → s n ≡ behind.nodes n) → Sized N types s home g.term g.node G
 
-    pub given_inner : (g : Given) (st behind : State) → Inner N types home In Vars scope g.term g.node (g.node + numbers g.term) st g.size behind → Given_inner (g.node + numbers g.term) g st behind
-    given_inner g st behind I = record { says = I.says; typed = I.typed; kept = I.kept; dropped = I.dropped; rules = I.rules }
+    pub given_inner : (g : Given) (st behind : State) → g.own ≡ g.size → Inner N types home In Vars scope g.term g.node (g.node + numbers g.term) st g.size behind → Given_inner (g.node + numbers g.term) g st behind
+    given_inner g st behind same I = record { says = I.says; typed = I.typed; kept = I.kept; dropped = I.dropped; rules = λ s G J e a. I.rules s G J (e ∙ same) a }
 
     -- the value of a name or a constant is no slot
     no_slot_named : (e : FlatTerm) (d : Free) → named_value e ≡ Some d → is_slot d ≡ false
@@ -108,8 +108,26 @@ module _ (N : Names) (types : Sub) (home : ℕ → ℕ) (K : Kinds) (places : Ki
     pub record Given_meets (upto : ℕ) (g : Given) (st behind : State) : Type 0 where
       pub value_is : (g.value ≡ None) ⊎ (g.value ≡ named_value g.term)
       pub inner : Given_inner upto g st behind
-      pub noted : g.named ≡ false → behind.nodes g.node ≡ g.size
+      pub noted : g.named ≡ false → behind.nodes g.node ≡ g.own
       pub value_known : Value_known N types home K places data_places In Vars scope g.term (types g.node)
+      -- its node may have another sized type than is wanted, if it is a function and no name
+      pub suits : Suits g.own g.size
+      pub own_sizes : Each (Scoped (With_met In g.node upto)) 0 g.own
+      pub own_named : g.named ≡ true → g.own ≡ g.size
+      pub own_number : is_i64_size g.size ≡ true → g.own ≡ g.size
+
+    -- one whose node has that which is wanted
+    pub given_meets_as : (upto : ℕ) (g : Given) (st behind : State) → g.own ≡ g.size → (g.value ≡ None) ⊎ (g.value ≡ named_value g.term) → Given_inner upto g st behind → (g.named ≡ false → behind.nodes g.node ≡ g.size) → Value_known N types home K places data_places In Vars scope g.term (types g.node) → Given_meets upto g st behind
+    given_meets_as upto g st behind same value inner noted known = record {
+      value_is = value;
+      inner = inner;
+      noted = λ e. noted e ∙ sym same;
+      value_known = known;
+      suits = subst (λ x. Suits x g.size) (sym same) suits_same;
+      own_sizes = subst (Each (Scoped (With_met In g.node upto)) 0) (sym same) inner.says.sizes;
+      own_named = λ e. same;
+      own_number = λ e. same;
+    }
 
     pub given_wider : (upto hi : ℕ) (g : Given) (st behind : State) → upto ≤ hi → Given_meets upto g st behind → Given_meets hi g st behind
     given_wider upto hi g st behind l M = record {
@@ -117,6 +135,10 @@ module _ (N : Names) (types : Sub) (home : ℕ → ℕ) (K : Kinds) (places : Ki
       inner = record { says = record { sizes = each_scoped (With_met In g.node upto) (With_met In g.node hi) wide g.size 0 M.inner.says.sizes; variables = M.inner.says.variables; formed = M.inner.says.formed }; typed = M.inner.typed; kept = M.inner.kept; dropped = M.inner.dropped; rules = M.inner.rules };
       noted = M.noted;
       value_known = M.value_known;
+      suits = M.suits;
+      own_sizes = each_scoped (With_met In g.node upto) (With_met In g.node hi) wide g.own 0 M.own_sizes;
+      own_named = M.own_named;
+      own_number = M.own_number;
     }
       where
         wide : (d : Free) → With_met In g.node upto d → With_met In g.node hi d
@@ -155,19 +177,22 @@ module _ (N : Names) (types : Sub) (home : ℕ → ℕ) (K : Kinds) (places : Ki
       pub is_fun : is_function g.size ≡ true
       pub gives : Gives_data types home K places g.term g.node
 
-    -- a function by its name, which is used at the sizes that are wanted of it
-    pub record Named_wide (g : Given) : Type 0 where
+    -- a name, or an application, which is used at the sizes that are wanted of it
+    pub record Named_wide (g : Given) (st mid : State) : Type 0 where
       pub own : Size
-      pub waits_is : g.waits ≡ Some (Early g.node g.value true own)
-      pub named : g.named ≡ true
+      pub waits_is : g.waits ≡ Some (Early g.node g.value g.named own)
       pub own_fun : is_function own ≡ true
       pub value_is : (g.value ≡ None) ⊎ (g.value ≡ named_value g.term)
       pub value_known : Value_known N types home K places data_places In Vars scope g.term (types g.node)
-      pub says : Says In Vars own
+      pub says : Says (With_met In g.node (g.node + numbers g.term)) Vars own
       pub typed : erased own ≡ types g.node
       pub arrows : Data_arrows own
       pub of_function : (a : Ty) × ((c : Ty) × (types g.node ≡ fun_ty a c))
-      pub rules : (s : ℕ → Size) (G : Context) → Judged In Vars scope G → Suits own (s g.node) → Sized N types s home g.term g.node G
+      pub kept : (n : ℕ) → (n < g.node) ⊎ (g.node + numbers g.term ≤ n) → mid.nodes n ≡ st.nodes n
+      pub dropped : (n : ℕ) → (n < g.node) ⊎ (g.node + numbers g.term ≤ n) → mid.dropped n ≡ st.dropped n
+      pub noted : g.named ≡ false → mid.nodes g.node ≡ own
+      -- the node of a name has the sized type that is wanted
+      pub rules : (s : ℕ → Size) (G : Context) → Judged In Vars scope G → (t : Size) → Suits own t → s g.node ≡ cond g.named t own → ((n : ℕ) → g.node < n → n < g.node + numbers g.term → s n ≡ mid.nodes n) → Sized N types s home g.term g.node G
 
     -- arguments of data that are sized one after another
     abbrev pub All_given : List Given → State → State → Type 0
@@ -179,10 +204,10 @@ module _ (N : Names) (types : Sub) (home : ℕ → ℕ) (K : Kinds) (places : Ki
     One_waits [] st A = ⊥
     One_waits (g ∷ gs) st A = ((mid : State) × (Data_meets g st mid × One_waits gs mid A)) ⊎ ((Lambda_waits g × All_given gs st A) ⊎ ((mid : State) × (Function_meets g st mid × All_given gs mid A)))
 
-    -- or such a lambda or name before data
+    -- or such a lambda, name or application before data
     abbrev pub First_waits : List Given → State → State → Type 0
     First_waits [] st A = ⊥
-    First_waits (g ∷ gs) st A = (Lambda_wide g ⊎ Named_wide g) × All_given gs st A
+    First_waits (g ∷ gs) st A = (Lambda_wide g × All_given gs st A) ⊎ ((mid : State) × (Named_wide g st mid × All_given gs mid A))
 
     pub given_snoc : (gs : List Given) (g : Given) (st mid A : State) → All_given gs st mid → Data_meets g mid A → All_given (gs ++ g ∷ []) st A
     given_snoc [] g st mid A h m = (A, (subst (λ x. Data_meets g x A) h m, refl))
@@ -204,13 +229,18 @@ module _ (N : Names) (types : Sub) (home : ℕ → ℕ) (K : Kinds) (places : Ki
 
     pub first_snoc : (gs : List Given) (g : Given) (st mid A : State) → First_waits gs st mid → Data_meets g mid A → First_waits (gs ++ g ∷ []) st A
     first_snoc [] g st mid A h m = absurd h
-    first_snoc (x ∷ gs) g st mid A h m = (h.0, given_snoc gs g st mid A h.1 m)
+    first_snoc (x ∷ gs) g st mid A (inl h) m = inl (h.0, given_snoc gs g st mid A h.1 m)
+    first_snoc (x ∷ gs) g st mid A (inr h) m = inr (h.0, (h.1.0, given_snoc gs g h.0 mid A h.1.1 m))
 
     -- ---- once all are sized: the lambda from the state behind data to the last one
 
+    -- what does not wait
+    abbrev pub Early_given : Given → Type 0
+    Early_given g = (t : Size) × (g.waits ≡ Some (Early g.node g.value g.named t))
+
     module _ (to : ℕ) (A0 B : State) where
       abbrev pub Part_there : Given → State → State → Type 0
-      Part_there g st mid = (Own_meets g st mid × (g.waits ≡ None)) ⊎ (Given_meets to g A0 B × (mid ≡ st))
+      Part_there g st mid = (Own_meets g st mid × (g.waits ≡ None)) ⊎ ((Given_meets to g st mid × Early_given g) ⊎ (Given_meets to g A0 B × (mid ≡ st)))
 
       abbrev pub All_parts : List Given → State → State → Type 0
       All_parts [] st A = A ≡ st
@@ -218,23 +248,28 @@ module _ (N : Names) (types : Sub) (home : ℕ → ℕ) (K : Kinds) (places : Ki
 
       abbrev first_state : (g : Given) (st mid : State) → Part_there g st mid → State
       first_state g st mid (inl m) = st
-      first_state g st mid (inr m) = A0
+      first_state g st mid (inr (inl m)) = st
+      first_state g st mid (inr (inr m)) = A0
 
       abbrev last_state : (g : Given) (st mid : State) → Part_there g st mid → State
       last_state g st mid (inl m) = mid
-      last_state g st mid (inr m) = B
+      last_state g st mid (inr (inl m)) = mid
+      last_state g st mid (inr (inr m)) = B
 
       pub part_meets : (g : Given) (st mid : State) (m : Part_there g st mid) → g.node + numbers g.term ≤ to → Given_meets to g (first_state g st mid m) (last_state g st mid m)
       part_meets g st mid (inl m) l = given_wider (g.node + numbers g.term) to g st mid l m.0
-      part_meets g st mid (inr m) l = m.0
+      part_meets g st mid (inr (inl m)) l = m.0
+      part_meets g st mid (inr (inr m)) l = m.0
 
       part_kept : (g : Given) (st mid : State) → Part_there g st mid → (x : ℕ) → (x < g.node) ⊎ (g.node + numbers g.term ≤ x) → mid.nodes x ≡ st.nodes x
       part_kept g st mid (inl m) x o = m.0.inner.kept x o
-      part_kept g st mid (inr m) x o = ap (λ (y : State). y.nodes x) m.1
+      part_kept g st mid (inr (inl m)) x o = m.0.inner.kept x o
+      part_kept g st mid (inr (inr m)) x o = ap (λ (y : State). y.nodes x) m.1
 
       part_dropped : (g : Given) (st mid : State) → Part_there g st mid → (x : ℕ) → (x < g.node) ⊎ (g.node + numbers g.term ≤ x) → mid.dropped x ≡ st.dropped x
       part_dropped g st mid (inl m) x o = m.0.inner.dropped x o
-      part_dropped g st mid (inr m) x o = ap (λ (y : State). y.dropped x) m.1
+      part_dropped g st mid (inr (inl m)) x o = m.0.inner.dropped x o
+      part_dropped g st mid (inr (inr m)) x o = ap (λ (y : State). y.dropped x) m.1
 
       pub below : (gs : List Given) (st A : State) (from hi : ℕ) → Placed gs from hi → All_parts gs st A → (x : ℕ) → (x < from) ⊎ (hi ≤ x) → A.nodes x ≡ st.nodes x
       below [] st A from hi p h x o = ap (λ (y : State). y.nodes x) h
@@ -263,7 +298,7 @@ module _ (N : Names) (types : Sub) (home : ℕ → ℕ) (K : Kinds) (places : Ki
     -- none of the nodes of a lambda
     abbrev pub Not_in : List Given → ℕ → Type 0
     Not_in [] x = Unit {0}
-    Not_in (g ∷ gs) x = (((x < g.node) ⊎ (g.node + numbers g.term ≤ x)) ⊎ (g.waits ≡ None)) × Not_in gs x
+    Not_in (g ∷ gs) x = (((x < g.node) ⊎ (g.node + numbers g.term ≤ x)) ⊎ ((g.waits ≡ None) ⊎ Early_given g)) × Not_in gs x
 
     pub not_in_outside : (gs : List Given) (from hi : ℕ) → Placed gs from hi → (x : ℕ) → (x < from) ⊎ (hi ≤ x) → Not_in gs x
     not_in_outside [] from hi p x o = tt
@@ -298,7 +333,7 @@ module _ (N : Names) (types : Sub) (home : ℕ → ℕ) (K : Kinds) (places : Ki
         all_plain [] st A from l p h = tt
         all_plain (g ∷ gs) st A from l p h =
             let M = part_meets hi A0 B g st h.0 h.1.0 (let y = p.0 in let z = placed_order gs (from + numbers g.term) hi p.1 in omega (arith, y, z)) in
-            ((M.inner.says.formed, given_in hi g (first_state hi A0 B g st h.0 h.1.0) (last_state hi A0 B g st h.0 h.1.0) M (let y = p.0 in omega (arith, y, l)) (omega arith), value_settled g M.value_is), all_plain gs h.0 A (from + numbers g.term) (omega (arith, l)) p.1 h.1.1)
+            ((M.inner.says.formed, given_in hi g (first_state hi A0 B g st h.0 h.1.0) (last_state hi A0 B g st h.0 h.1.0) M (let y = p.0 in omega (arith, y, l)) (omega arith), value_settled g M.value_is, M.own_named), all_plain gs h.0 A (from + numbers g.term) (omega (arith, l)) p.1 h.1.1)
 
       pub one_fit : (g : Given) (st mid : State) → Data_meets g st mid → first ≤ g.node → g.node + numbers g.term ≤ hi → Data_given P Vars K types g
       one_fit g st mid m l l' = (((param_data N types home K places g.size g.node data_places m.1.0 m.0.inner.says.formed m.0.inner.typed, m.0.inner.says.formed, given_in (g.node + numbers g.term) g st mid m.0 l l', m.0.inner.says.variables), m.1.1), (m.0.inner.typed, let k = m.1.0 in omega (arith, data_places, k)))
@@ -383,7 +418,7 @@ module _ (N : Names) (types : Sub) (home : ℕ → ℕ) (K : Kinds) (places : Ki
               by_order (inr x) (inl y) = subst (With_met In at hi) (sym (at_high i y)) (inr (omega arith, omega (arith, a2, a3)))
               by_order (inr x) (inr y) = subst (λ m. With_met In at hi (inside m)) (let z : k ≡ i = omega (arith, x, y) in z) (subst (With_met In at hi) (sym at_value) (value_in g.term M.value_known (number_value g) number_given))
 
-          module _ (s : ℕ → Size) (G : Context) (J : Judged In Vars scope G) (at_node : s g.node ≡ g.size) where
+          module _ (s : ℕ → Size) (G : Context) (J : Judged In Vars scope G) (at_node : s g.node ≡ g.own) where
             value_given : (e : FlatTerm) → Value_known N types home K places data_places In Vars scope e (types g.node) → (v : Option Free) → Given_as e v → Is_value N types s home e g.node G (value_now v) ⊎ (value_now v ≡ Unknown at (next + k))
             value_given e w v (inl z) = inr (ap value_now z)
             value_given (Use (ref.Bound x) p i) w v (inr z) = let n = w z.1 in inl (ap value_now z.0, by_form n (number_size n.size n.says.formed (number_name In Vars types home scope x.0 n)) n.is_general refl)
@@ -394,7 +429,7 @@ module _ (N : Names) (types : Sub) (home : ℕ → ℕ) (K : Kinds) (places : Ki
             value_given (Strict (Integer c i) mark no_term) w v (inr z) = by_fit z.1 (fits_i64 c) refl z.0
               where
                 by_fit : types g.node ≡ i64_ty → (b : Bool) → fits_i64 c ≡ b → v ≡ cond b (Some (Const c)) None → Is_value N types s home (Strict (Integer c i) mark no_term) g.node G (value_now v) ⊎ (value_now v ≡ Unknown at (next + k))
-                by_fit i64 true fits q = inl (ap value_now q, at_node ∙ number_size g.size M.inner.says.formed (M.inner.typed ∙ i64), ltb-true c (2 ^ 63) fits)
+                by_fit i64 true fits q = inl (ap value_now q, at_node ∙ M.own_number (number_typed g.size M.inner.says.formed ∙ ap is_i64_ty (M.inner.typed ∙ i64)) ∙ number_size g.size M.inner.says.formed (M.inner.typed ∙ i64), ltb-true c (2 ^ 63) fits)
                 by_fit i64 false fits q = inr (ap value_now q)
             value_given e w v (inr z) = inr (ap value_now z.0)
 
@@ -465,8 +500,9 @@ module _ (N : Names) (types : Sub) (home : ℕ → ℕ) (K : Kinds) (places : Ki
 
           -- one node of an argument, in the last state
           part_node : (g : Given) (gs : List Given) (st mid A : State) (from : ℕ) → g.node + numbers g.term ≡ from → Placed gs from hi → (m : Part_there hi A0 B g st mid) → All_parts hi A0 B gs mid A → ((x : ℕ) → g.node ≤ x → x < hi → Not_in (g ∷ gs) x → B.nodes x ≡ A.nodes x) → (x : ℕ) → g.node ≤ x → x < from → from ≤ hi → B.nodes x ≡ (last_state hi A0 B g st mid m).nodes x
-          part_node g gs st mid A from e pl (inl m) hs still x l l' r = still x l (omega (arith, l', r)) (inr m.1, not_in_outside gs from hi pl x (inl l')) ∙ below hi A0 B gs mid A from hi pl hs x (inl l')
-          part_node g gs st mid A from e pl (inr m) hs still x l l' r = refl
+          part_node g gs st mid A from e pl (inl m) hs still x l l' r = still x l (omega (arith, l', r)) (inr (inl m.1), not_in_outside gs from hi pl x (inl l')) ∙ below hi A0 B gs mid A from hi pl hs x (inl l')
+          part_node g gs st mid A from e pl (inr (inl m)) hs still x l l' r = still x l (omega (arith, l', r)) (inr (inr m.1), not_in_outside gs from hi pl x (inl l')) ∙ below hi A0 B gs mid A from hi pl hs x (inl l')
+          part_node g gs st mid A from e pl (inr (inr m)) hs still x l l' r = refl
 
           -- ---- nodes within arguments, and of those that are no names
           pub nodes_of : (gs : List Given) (φ : Opened) (t : Size) (σ : Found) (st A : State) (from : ℕ) → Takes_all gs t → Placed gs from hi → (h : All_parts hi A0 B gs st A) → ((x : ℕ) → from ≤ x → x < hi → Not_in gs x → B.nodes x ≡ A.nodes x) → ((x : ℕ) → from ≤ x → x < hi → Avoids N types τ x (uses (wants lo gs φ t σ)) → s x ≡ B.nodes x)
@@ -503,7 +539,7 @@ module _ (N : Names) (types : Sub) (home : ℕ → ℕ) (K : Kinds) (places : Ki
           opened_as δ f t = opened_filled (λ i. closed_to (f i)) (ends δ) t ∙ filled_same (pushed (λ i. closed_to (f i)) (ends δ)) (ends (pushed f δ)) (pushed_as closed_to f δ) t 0
 
           one_rule : (gs : List Given) (g : Given) (δ : Frames) (ok : ℕ → ℕ → Type 0) (k : ℕ) (p r : Size) (next : ℕ) (f : FlatTerm) (st behind : State) → Given_meets hi g st behind → Formed (Fun k p r) → Each (Okay P ok) 0 (Fun k p r) → Frames_in (suc (here lo gs)) ok δ
-              → here lo gs < first → first ≤ g.node → g.node + numbers g.term ≤ hi → ((i : ℕ) → i < k → τ.maker (next + i) ≡ here lo gs) → g.node ≡ 1 + here lo gs + numbers f → s (suc (here lo gs)) ≡ filled (ends δ) 0 (Fun k p r) → filled (ends (pushed (frame (here lo gs) next k (number_value g)) δ)) 0 p ≡ g.size → s g.node ≡ g.size
+              → here lo gs < first → first ≤ g.node → g.node + numbers g.term ≤ hi → ((i : ℕ) → i < k → τ.maker (next + i) ≡ here lo gs) → g.node ≡ 1 + here lo gs + numbers f → s (suc (here lo gs)) ≡ filled (ends δ) 0 (Fun k p r) → filled (ends (pushed (frame (here lo gs) next k (number_value g)) δ)) 0 p ≡ g.size → s g.node ≡ g.own
               → ((x : ℕ) → g.node < x → x < g.node + numbers g.term → s x ≡ behind.nodes x) → s (here lo gs) ≡ filled (ends (pushed (frame (here lo gs) next k (number_value g)) δ)) 0 r → Sized N types s home f (1 + here lo gs) G → Sized N types s home (Apply f g.term) (here lo gs) G
           unfolding replaced Formed
           one_rule gs g δ ok k p r next f st behind M fm e fs l l1 l2 maker mid function_here fits argument_here inner result_here rules = (
@@ -518,13 +554,13 @@ module _ (N : Names) (types : Sub) (home : ℕ → ℕ) (K : Kinds) (places : Ki
                   (filled_says P (With_met In (suc (here lo gs)) hi) (λ d i. met_later (suc (here lo gs)) d i (omega (arith, l))) (ends δ) ok fs (Fun k p r) 0 e));
               inside = λ i. closed_to (frame (here lo gs) next k (number_value g) i);
               low = (formed_replaced (fill (ends δ)) (fill_keeps (ends δ)) (fill_back (ends δ)) (Fun k p r) 0 fm).2;
-              argument = subst (λ w. Suits (s g.node) w) (argument_here ∙ sym fits ∙ sym (opened_as δ (frame (here lo gs) next k (number_value g)) p)) suits_same;
+              argument = subst (Suits (s g.node)) (sym fits ∙ sym (opened_as δ (frame (here lo gs) next k (number_value g)) p)) (subst (λ w. Suits w g.size) (sym argument_here) M.suits);
               base = next;
               known = λ i x. known_low (here lo gs) next k g st behind M (omega arith) l room maker s G J argument_here i x;
               value = subst (λ d. Is_value N types s home g.term g.node G d ⊎ (d ≡ Unknown (here lo gs) (next + k))) (sym (at_value (here lo gs) next k g st behind M (omega arith) l room maker)) (value_given (here lo gs) next k g st behind M (omega arith) l room maker s G J argument_here g.term M.value_known (number_value g) (number_given (here lo gs) next k g st behind M (omega arith) l room maker));
               new = λ i x. at_high (here lo gs) next k g st behind M (omega arith) l room maker i x;
               result = inl (result_here ∙ sym (opened_as δ (frame (here lo gs) next k (number_value g)) r));
-              order = inl (subst (λ w. Away N types s home (1 + here lo gs) g.node w) (sym argument_here) (away_of N types home (With_met In g.node hi) Vars s (1 + here lo gs) g.node g.size before M.inner.says));
+              order = inl (subst (λ w. Away N types s home (1 + here lo gs) g.node w) (sym argument_here) (each_scoped (With_met In g.node hi) (λ d. Outside N types s home (1 + here lo gs) g.node d) before g.own 0 M.own_sizes));
             }),
           )
             where

@@ -19,10 +19,10 @@ use Rattle.fut_sizes.specs.Scopes.{or_else, type_of, type_in, or_variable, insta
 use Rattle.fut_sizes.specs.Steps.{State}
 use Rattle.fut_sizes.specs.Suiting.{Each, Each_all, Scoped, Of_positions, Data, All_data}
 use Rattle.sizes_meet_rules.specs.Known.{is_i64_size, Is_made, Formed, All_formed, Says}
-use Rattle.sizes_meet_rules.specs.Plain.{Is_closed}
+use Rattle.sizes_meet_rules.specs.Plain.{Is_closed, Reduces}
 use Rattle.sizes_meet_rules.proofs.Applying.{no_arrow}
 use Rattle.sizes_meet_rules.proofs.Chains.{Given, Has_arrows, Widths, arrows_of}
-use Rattle.sizes_meet_rules.proofs.Filling.{function_holes, data_holes, lambda_holes, Data_fit, Is_inferred, Nice, Arrows}
+use Rattle.sizes_meet_rules.proofs.Filling.{function_holes, data_holes, lambda_holes, taken_holes, rest_of, Rest_fine, Data_fit, Is_inferred, Nice, Arrows}
 use Rattle.sizes_meet_rules.proofs.Fitting.{is_simple, is_wanted}
 use Rattle.sizes_meet_rules.proofs.Lambdas.{Waiting_fit, Data_given, All_data_given, One_given, Lambda_there, One_lambda, Early_function, Early_there, Function_wanted, One_wide}
 use Rattle.sizes_meet_rules.proofs.Meeting.{order, each_scoped}
@@ -556,13 +556,76 @@ module _ (n : ℕ) (types : Variable → Ty) where
     arrow_typed (Level d t) e h = let z : false ≡ true = e in cc
     arrow_typed (Built h ts) e k = let z : false ≡ true = e in cc
 
-    result_data : (t : Size) (u : Ty) → Formed t → takes_args q regular t ≡ true → 1 ≤ rank K u → applied g (erased t) ≡ u → Data t × ((v : Variable) → lambda_holes t v ≡ false)
-    unfolding takes_args is_data Formed erased applied all_applied lambda_holes
-    result_data (Fun k p r) u f d k1 e = absurd (no_function (applied g (erased p)) (applied g (erased r)) (subst (λ w. 1 ≤ rank K w) (sym e) k1))
-    result_data (Hole v) u f d k1 e = (data_told (Hole v) d, λ x. refl)
-    result_data (Open m v x) u f d k1 e = absurd f
-    result_data (Level l t) u f d k1 e = (data_told (Level l t) d, λ x. refl)
-    result_data (Built h ts) u f d k1 e = (data_told (Built h ts) d, λ x. refl)
+    -- data has no parameters
+    data_none : (t : Size) (v : Variable) → Data t → (data_holes t v ≡ false) × (lambda_holes t v ≡ false)
+    unfolding Data data_holes lambda_holes
+    data_none (Hole w) v d = (refl, refl)
+    data_none (Open m w u) v d = absurd d
+    data_none (Level l t) v d = (refl, refl)
+    data_none (Built h ts) v d = (refl, refl)
+    data_none (Fun k p r) v d = absurd d
+
+    all_given : (gs : List Given) (t : Size) (v : Variable) → Data (rest_of gs t) → data_holes t v ≡ true → taken_holes gs t v ≡ true
+    unfolding data_holes Data
+    all_given [] t v d e = absurd (let z : true ≡ false = sym e ∙ (data_none t v d).0 in cc)
+    all_given (x ∷ gs) (Fun k p r) v d e = by_place (all_given gs r v d) (has_hole p v) e
+      where
+        by_place : (data_holes r v ≡ true → taken_holes gs r v ≡ true) → (b : Bool) → b || data_holes r v ≡ true → b || taken_holes gs r v ≡ true
+        by_place go true z = refl
+        by_place go false z = go z
+    all_given (x ∷ gs) (Hole w) v d e = absurd (let z : false ≡ true = e in cc)
+    all_given (x ∷ gs) (Open m w u) v d e = absurd d
+    all_given (x ∷ gs) (Level l t) v d e = absurd (let z : false ≡ true = e in cc)
+    all_given (x ∷ gs) (Built h ts) v d e = absurd (let z : false ≡ true = e in cc)
+
+    -- where the result is data
+    rest_data : (gs : List Given) (t : Size) (u : Ty) → Formed t → Each_hole Is_inferred t → takes_args q regular t ≡ true → 1 ≤ rank K u → applied g (erased t) ≡ arrows_of sub gs u → Data (rest_of gs t)
+    unfolding takes_args is_data Formed Each_hole erased applied all_applied
+    rest_data [] (Fun k p r) u f i d k1 e = absurd (no_function (applied g (erased p)) (applied g (erased r)) (subst (λ w. 1 ≤ rank K w) (sym e) k1))
+    rest_data [] (Hole v) u f i d k1 e = data_told (Hole v) d
+    rest_data [] (Open m v x) u f i d k1 e = absurd f
+    rest_data [] (Level l t) u f i d k1 e = data_told (Level l t) d
+    rest_data [] (Built h ts) u f i d k1 e = data_told (Built h ts) d
+    rest_data (x ∷ gs) (Fun k p r) u f i d k1 e =
+        let w = both_true (is_data p || (is_arrow p && is_wanted q (λ v. regular) p)) (takes_args q regular r) d in
+        let y : fun_ty (applied g (erased p)) (applied g (erased r)) ≡ fun_ty (sub x.node) (arrows_of sub gs u) = e in
+        rest_data gs r u f.1 i.1 w.1 k1 (let z : applied g (erased r) ≡ arrows_of sub gs u = cc in z)
+    rest_data (x ∷ gs) (Hole (Inferred v)) u f i d k1 e = absurd (no_function (sub x.node) (arrows_of sub gs u) (subst (λ w. 1 ≤ rank K w) e (kinds v)))
+    rest_data (x ∷ gs) (Hole (Written b k)) u f i d k1 e = absurd i
+    rest_data (x ∷ gs) (Open m v y) u f i d k1 e = absurd f
+    rest_data (x ∷ gs) (Level l t) u f i d k1 e = absurd (let y : Made head.Array (more (applied g (erased t)) none) ≡ fun_ty (sub x.node) (arrows_of sub gs u) = e in cc)
+    rest_data (x ∷ gs) (Built h ts) u f i d k1 e = absurd (subst Is_made (head_same e) f.0)
+
+    data_fine : (gs : List Given) (t : Size) (u : Ty) → Formed t → Each_hole Is_inferred t → takes_args q regular t ≡ true → 1 ≤ rank K u → applied g (erased t) ≡ arrows_of sub gs u → Rest_fine gs t
+    data_fine gs t u f i d k1 e = let D = rest_data gs t u f i d k1 e in record { no_lambda = λ v. (data_none (rest_of gs t) v D).1; covers = λ v z. all_given gs t v D z }
+
+    twice : (b : Bool) → false || (b || (b || false)) ≡ true → false || (b || false) ≡ true
+    twice true e = refl
+    twice false e = e
+
+    arrows_fun : (gs : List Given) (a c : Ty) → (b : Ty) × ((d : Ty) × (arrows_of sub gs (fun_ty a c) ≡ fun_ty b d))
+    arrows_fun [] a c = (a, (c, refl))
+    arrows_fun (x ∷ gs) a c = (sub x.node, (arrows_of sub gs (fun_ty a c), refl))
+
+    -- a function, a value, an array of such values, and data behind it
+    shape_fine : (o1 o2 : Size) (v : ℕ) (e : Dim) (s : Size) → Data s → is_data s ≡ true → Formed s → Each_hole Is_inferred s → (gs : List Given) (a c : Ty) → 1 ≤ rank K c → applied g (erased (Fun 0 (Fun 0 o1 o2) (Fun 0 (Hole (Inferred v)) (Fun 1 (Level e (Hole (Inferred v))) s)))) ≡ arrows_of sub gs (fun_ty a c) → Rest_fine gs (Fun 0 (Fun 0 o1 o2) (Fun 0 (Hole (Inferred v)) (Fun 1 (Level e (Hole (Inferred v))) s)))
+    unfolding data_holes lambda_holes has_hole erased all_erased applied all_applied
+    shape_fine o1 o2 v e s d i f h [] a c k z = absurd (let y : fun_ty (applied g (erased (Fun 0 o1 o2))) (fun_ty (g v) (fun_ty (Made head.Array (more (g v) none)) (applied g (erased s)))) ≡ fun_ty a c = z in
+        no_function (g v) (fun_ty (Made head.Array (more (g v) none)) (applied g (erased s))) (subst (λ w. 1 ≤ rank K w) (let x : c ≡ fun_ty (g v) (fun_ty (Made head.Array (more (g v) none)) (applied g (erased s))) = cc in x) k))
+    shape_fine o1 o2 v e s d i f h (x ∷ []) a c k z = absurd (let y : fun_ty (applied g (erased (Fun 0 o1 o2))) (fun_ty (g v) (fun_ty (Made head.Array (more (g v) none)) (applied g (erased s)))) ≡ fun_ty (sub x.node) (fun_ty a c) = z in
+        no_function (Made head.Array (more (g v) none)) (applied g (erased s)) (subst (λ w. 1 ≤ rank K w) (let x : c ≡ fun_ty (Made head.Array (more (g v) none)) (applied g (erased s)) = cc in x) k))
+    shape_fine o1 o2 v e s d i f h (x ∷ y ∷ []) a c k z = record { no_lambda = λ w. (data_none s w d).1; covers = λ w r. twice (is_variable w (Inferred v)) (ap (λ b. false || (is_variable w (Inferred v) || (is_variable w (Inferred v) || b))) (sym (data_none s w d).0) ∙ r) }
+    shape_fine o1 o2 v e s d i f h (x ∷ y ∷ w ∷ gs) a c k z =
+        let q1 : fun_ty (applied g (erased (Fun 0 o1 o2))) (fun_ty (g v) (fun_ty (Made head.Array (more (g v) none)) (applied g (erased s)))) ≡ fun_ty (sub x.node) (fun_ty (sub y.node) (fun_ty (sub w.node) (arrows_of sub gs (fun_ty a c)))) = z in
+        let A = arrows_fun gs a c in
+        absurd (data_typed s A.0 A.1.0 f h i ((let q2 : applied g (erased s) ≡ arrows_of sub gs (fun_ty a c) = cc in q2) ∙ A.1.1))
+
+    reduced_fine : (p : Primitive) → Reduces p → (gs : List Given) (a c : Ty) → 1 ≤ rank K c → applied g (erased (prim_size p)) ≡ arrows_of sub gs (fun_ty a c) → Rest_fine gs (prim_size p)
+    unfolding prim_size sized_type levels all_levels Data is_data Formed Each_hole
+    reduced_fine prim.Reduce r gs a c k z = shape_fine _ _ _ _ _ tt refl tt tt gs a c k z
+    reduced_fine prim.ReduceComm r gs a c k z = shape_fine _ _ _ _ _ tt refl tt tt gs a c k z
+    reduced_fine prim.Scan r gs a c k z = shape_fine _ _ _ _ _ tt refl tt tt gs a c k z
+    reduced_fine p r gs a c k z = absurd r
 
     data_parameter : (p : Size) (x : Given) → is_data p || (is_arrow p && is_wanted q (λ v. regular) p) ≡ true → Each_hole Is_inferred p → Each_hole (λ v. types v ≡ given_of g v) p → applied g (erased p) ≡ sub x.node → Data_given P Vars K sub x → (Data p × (erased (instance n types p) ≡ erased x.size)) × Data_fit P Vars x
     data_parameter p x w i o e D = by_kind (one_of (is_data p) (is_arrow p && is_wanted q (λ v. regular) p) w)
@@ -571,9 +634,9 @@ module _ (n : ℕ) (types : Variable → Ty) where
         by_kind (inl d) = ((data_told p d, opened_typed g p i o ∙ e ∙ sym D.1.0), D.0.0)
         by_kind (inr a) = absurd (arrow_typed p (both_true (is_arrow p) (is_wanted q (λ v. regular) p) a).0 (subst (λ w. 1 ≤ rank K w) (sym e) D.1.1))
 
-    data_arrows : (gs : List Given) (t : Size) (u : Ty) → Formed t → Each_hole Is_inferred t → takes_args q regular t ≡ true → Each_hole (λ v. types v ≡ given_of g v) t → 1 ≤ rank K u → applied g (erased t) ≡ arrows_of sub gs u → All_data_given P Vars K sub gs → Arrows n types P settled Vars gs t × ((v : Variable) → lambda_holes t v ≡ false)
+    data_arrows : (gs : List Given) (t : Size) (u : Ty) → Formed t → Each_hole Is_inferred t → takes_args q regular t ≡ true → Each_hole (λ v. types v ≡ given_of g v) t → ((v : Variable) → lambda_holes (rest_of gs t) v ≡ false) → applied g (erased t) ≡ arrows_of sub gs u → All_data_given P Vars K sub gs → Arrows n types P settled Vars gs t × ((v : Variable) → lambda_holes t v ≡ false)
     unfolding takes_args Formed Each_hole erased applied all_applied lambda_holes
-    data_arrows [] t u f i d o k1 e D = result_data t u f d k1 e
+    data_arrows [] t u f i d o k1 e D = (tt, k1)
     data_arrows (x ∷ gs) (Fun k p r) u f i d o k1 e D =
         let w = both_true (is_data p || (is_arrow p && is_wanted q (λ v. regular) p)) (takes_args q regular r) d in
         let y : fun_ty (applied g (erased p)) (applied g (erased r)) ≡ fun_ty (sub x.node) (arrows_of sub gs u) = e in
@@ -608,7 +671,7 @@ module _ (n : ℕ) (types : Variable → Ty) where
               let y = both_true (is_arrow p) (is_wanted q (λ v. regular) p) b in
               record { went = went; state = same; function = F; wanted = y.1; arrow = y.0; inferred = i; kinds = kinds_there p i o; typed = opened_typed g p i o ∙ e }
 
-      lambda_arrows : (gs : List Given) (t : Size) (u : Ty) → Formed t → Each_hole Is_inferred t → takes_args q regular t ≡ true → Each_hole (λ v. types v ≡ given_of g v) t → 1 ≤ rank K u → applied g (erased t) ≡ arrows_of sub gs u → One_given P Vars K sub Went st after gs → Arrows n types P settled Vars gs t × One_lambda n types P settled Vars K sub Went st after lo q regular gs t
+      lambda_arrows : (gs : List Given) (t : Size) (u : Ty) → Formed t → Each_hole Is_inferred t → takes_args q regular t ≡ true → Each_hole (λ v. types v ≡ given_of g v) t → ((v : Variable) → lambda_holes (rest_of gs t) v ≡ false) → applied g (erased t) ≡ arrows_of sub gs u → One_given P Vars K sub Went st after gs → Arrows n types P settled Vars gs t × One_lambda n types P settled Vars K sub Went st after lo q regular gs t
       unfolding takes_args Formed Each_hole erased applied all_applied
       lambda_arrows [] t u f i d o k1 e D = absurd D
       lambda_arrows (x ∷ gs) (Fun k p r) u f i d o k1 e (inl D) =
@@ -646,7 +709,7 @@ module _ (n : ℕ) (types : Variable → Ty) where
               let y = both_true (is_arrow p) (is_wanted q (λ v. regular) p) b in
               record { wanted = y.1; arrow = y.0; inferred = i; kinds = kinds_there p i o; typed = opened_typed g p i o ∙ e }
 
-      wide_arrows : (x : Given) (gs : List Given) (t : Size) (u : Ty) → Formed t → Each_hole Is_inferred t → takes_args q regular t ≡ true → Each_hole (λ v. types v ≡ given_of g v) t → 1 ≤ rank K u → applied g (erased t) ≡ arrows_of sub (x ∷ gs) u → is_function x.size ≡ true → (a c : Ty) → sub x.node ≡ fun_ty a c → All_data_given P Vars K sub gs
+      wide_arrows : (x : Given) (gs : List Given) (t : Size) (u : Ty) → Formed t → Each_hole Is_inferred t → takes_args q regular t ≡ true → Each_hole (λ v. types v ≡ given_of g v) t → ((v : Variable) → lambda_holes (rest_of (x ∷ gs) t) v ≡ false) → applied g (erased t) ≡ arrows_of sub (x ∷ gs) u → is_function x.size ≡ true → (a c : Ty) → sub x.node ≡ fun_ty a c → All_data_given P Vars K sub gs
           → Arrows n types P settled Vars (x ∷ gs) t × One_wide n types P settled Vars K sub Went st after lo q regular (x ∷ gs) t
       unfolding takes_args Formed Each_hole erased applied all_applied
       wide_arrows x gs (Fun k p r) u f i d o k1 e is_fun a c is D =
@@ -683,16 +746,23 @@ module _ (n : ℕ) (p : Primitive) (u : Ty) (g : Sub) (typed : u ≡ applied g (
       there v o = ap (λ w. or_variable v (type_of v (prim_size p) w)) (typed ∙ ap (applied g) (sym (primitive_erased p))) ∙ ap (or_variable v) (type_told g v (prim_size p) (prim_ok p).inferred ∙ ap (λ b. cond b (Some (given_of g v)) None) o)
 
   module _ (P : Free → Type 0) (settled : (d : Free) → P d → is_slot d ≡ false) (Vars : Variable → Type 0) where
-    module _ (K : Kinds) (kinds : (m : ℕ) → 1 ≤ rank K (g m)) (sub : Sub) (gs : List Given) (w : Ty) (data_kind : 1 ≤ rank K w) (arrows : u ≡ arrows_of sub gs w) where
+    module _ (K : Kinds) (kinds : (m : ℕ) → 1 ≤ rank K (g m)) (sub : Sub) (gs : List Given) (w : Ty) (fine : Rest_fine gs (prim_size p)) (arrows : u ≡ arrows_of sub gs w) where
       pub prim_data : All_data_given P Vars K sub gs → Arrows n types_there P settled Vars gs (prim_size p) × ((v : Variable) → lambda_holes (prim_size p) v ≡ false)
-      prim_data D = data_arrows n types_there P settled Vars K g kinds sub (data_holes (prim_size p)) (is_regular p) gs (prim_size p) w (prim_ok p).formed (prim_ok p).inferred (prim_ok p).takes types_given data_kind (ap (applied g) (primitive_erased p) ∙ sym typed ∙ arrows) D
+      prim_data D = data_arrows n types_there P settled Vars K g kinds sub (data_holes (prim_size p)) (is_regular p) gs (prim_size p) w (prim_ok p).formed (prim_ok p).inferred (prim_ok p).takes types_given fine.no_lambda (ap (applied g) (primitive_erased p) ∙ sym typed ∙ arrows) D
 
       pub prim_lambda : (Went : Type 0) (st after : State) (lo : ℕ) → One_given P Vars K sub Went st after gs → Arrows n types_there P settled Vars gs (prim_size p) × One_lambda n types_there P settled Vars K sub Went st after lo (data_holes (prim_size p)) (is_regular p) gs (prim_size p)
-      prim_lambda Went st after lo D = lambda_arrows n types_there P settled Vars K g kinds sub (data_holes (prim_size p)) (is_regular p) Went st after lo gs (prim_size p) w (prim_ok p).formed (prim_ok p).inferred (prim_ok p).takes types_given data_kind (ap (applied g) (primitive_erased p) ∙ sym typed ∙ arrows) D
+      prim_lambda Went st after lo D = lambda_arrows n types_there P settled Vars K g kinds sub (data_holes (prim_size p)) (is_regular p) Went st after lo gs (prim_size p) w (prim_ok p).formed (prim_ok p).inferred (prim_ok p).takes types_given fine.no_lambda (ap (applied g) (primitive_erased p) ∙ sym typed ∙ arrows) D
 
-    pub prim_wide : (K : Kinds) (kinds : (m : ℕ) → 1 ≤ rank K (g m)) (sub : Sub) (x : Given) (gs : List Given) (w : Ty) → 1 ≤ rank K w → u ≡ arrows_of sub (x ∷ gs) w → (Went : Type 0) (st after : State) (lo : ℕ) → is_function x.size ≡ true → (a c : Ty) → sub x.node ≡ fun_ty a c → All_data_given P Vars K sub gs
+    pub prim_wide : (K : Kinds) (kinds : (m : ℕ) → 1 ≤ rank K (g m)) (sub : Sub) (x : Given) (gs : List Given) (w : Ty) → Rest_fine (x ∷ gs) (prim_size p) → u ≡ arrows_of sub (x ∷ gs) w → (Went : Type 0) (st after : State) (lo : ℕ) → is_function x.size ≡ true → (a c : Ty) → sub x.node ≡ fun_ty a c → All_data_given P Vars K sub gs
         → Arrows n types_there P settled Vars (x ∷ gs) (prim_size p) × One_wide n types_there P settled Vars K sub Went st after lo (data_holes (prim_size p)) (is_regular p) (x ∷ gs) (prim_size p)
-    prim_wide K kinds sub x gs w data_kind arrows Went st after lo is_fun a c is D = wide_arrows n types_there P settled Vars K g kinds sub (data_holes (prim_size p)) (is_regular p) Went st after lo x gs (prim_size p) w (prim_ok p).formed (prim_ok p).inferred (prim_ok p).takes types_given data_kind (ap (applied g) (primitive_erased p) ∙ sym typed ∙ arrows) is_fun a c is D
+    prim_wide K kinds sub x gs w fine arrows Went st after lo is_fun a c is D = wide_arrows n types_there P settled Vars K g kinds sub (data_holes (prim_size p)) (is_regular p) Went st after lo x gs (prim_size p) w (prim_ok p).formed (prim_ok p).inferred (prim_ok p).takes types_given fine.no_lambda (ap (applied g) (primitive_erased p) ∙ sym typed ∙ arrows) is_fun a c is D
+
+    -- where the result is data, and where a reduction is left with its array
+    pub prim_fine : (K : Kinds) (kinds : (m : ℕ) → 1 ≤ rank K (g m)) (sub : Sub) (gs : List Given) (w : Ty) → 1 ≤ rank K w → u ≡ arrows_of sub gs w → Rest_fine gs (prim_size p)
+    prim_fine K kinds sub gs w k arrows = data_fine n types_there P settled Vars K g kinds sub (data_holes (prim_size p)) (is_regular p) gs (prim_size p) w (prim_ok p).formed (prim_ok p).inferred (prim_ok p).takes k (ap (applied g) (primitive_erased p) ∙ sym typed ∙ arrows)
+
+    pub reduction_fine : (K : Kinds) (kinds : (m : ℕ) → 1 ≤ rank K (g m)) (sub : Sub) (gs : List Given) (a c : Ty) → Reduces p → 1 ≤ rank K c → u ≡ arrows_of sub gs (fun_ty a c) → Rest_fine gs (prim_size p)
+    reduction_fine K kinds sub gs a c r k arrows = reduced_fine n types_there P settled Vars K g kinds sub (data_holes (prim_size p)) (is_regular p) p r gs a c k (ap (applied g) (primitive_erased p) ∙ sym typed ∙ arrows)
 
     pub prim_widths : (gs : List Given) → Arrows n types_there P settled Vars gs (prim_size p) → Widths gs (instance n types_there (prim_size p)) → Has_arrows gs (instance n types_there (prim_size p))
     prim_widths gs a w = arrows_opened n types_there P settled Vars gs (prim_size p) a w

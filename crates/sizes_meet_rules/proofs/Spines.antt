@@ -18,12 +18,12 @@ use Rattle.fut_typing.specs.Scopes.{Scope as TypeScope}
 use Rattle.fut_typing.specs.Typing.{Typed}
 use Rattle.sized_types.specs.Sizes.{Free, Name, Variable, Size, Built, Fun, no_size, erased}
 use Rattle.fut_sizes.specs.Agreeing.{Answer}
-use Rattle.fut_sizes.specs.Applications.{Argument, Early, Late, Part, Applied, whole, named_value, is_function}
+use Rattle.fut_sizes.specs.Applications.{Argument, Early, Late, Part, Applied, Waiting, whole, named_value, is_function}
 use Rattle.fut_sizes.specs.Primitives.{prim_size, is_regular}
 use Rattle.fut_sizes.specs.Rules.{Sized}
 use Rattle.fut_sizes.specs.Scopes.{Scope, used}
 use Rattle.fut_sizes.specs.Scoping.{Context}
-use Rattle.fut_sizes.specs.Sizing.{as_argument, with_argument, sized}
+use Rattle.fut_sizes.specs.Sizing.{finished, as_argument, with_argument, sized}
 use Rattle.fut_sizes.specs.Steps.{State, Done}
 use Rattle.fut_sizes.specs.Suiting.{Suits}
 use Rattle.sizes_meet_rules.specs.Known.{Says, Known_name, Known_names, Judged, Elsewhere}
@@ -32,11 +32,12 @@ use Rattle.sizes_meet_rules.proofs.Applying.{Function_size, function_is, Argumen
 use Rattle.sizes_meet_rules.proofs.Chains.{Given, argument_by, arguments, arrows_of}
 use Rattle.sizes_meet_rules.proofs.Choosing.{data_function_is, arrows_of_type}
 use Rattle.sizes_meet_rules.proofs.Heads.{a_name, a_primitive, Head, Primitive_head}
-use Rattle.sizes_meet_rules.proofs.Meeting.{then_ok, same_ok, elsewhere_narrower, Part_meets, Whole_meets, Is_applied, Waits, Waits_wide}
+use Rattle.sizes_meet_rules.proofs.Meeting.{Then_ok, then_ok, same_ok, says_more, With_met, elsewhere_narrower, Part_meets, Whole_meets, Is_applied, Waits, Waits_wide}
 use Rattle.sizes_meet_rules.proofs.Naming.{no_function}
 use Rattle.sizes_meet_rules.proofs.Noting.{Placed}
-use Rattle.sizes_meet_rules.proofs.Parts.{gives_lambda, spine, spine_snoc, arguments_snoc, length_snoc, arrows_snoc, placed_snoc, Data_meets, given_inner, Function_meets, Lambda_waits, Lambda_wide, Named_wide, All_given, One_waits, First_waits, given_snoc, waits_snoc, function_snoc, data_snoc, first_snoc}
+use Rattle.sizes_meet_rules.proofs.Parts.{gives_lambda, spine, spine_snoc, arguments_snoc, length_snoc, arrows_snoc, placed_snoc, Data_meets, given_inner, given_meets_as, Function_meets, Lambda_waits, Lambda_wide, Named_wide, All_given, One_waits, First_waits, given_snoc, waits_snoc, function_snoc, data_snoc, first_snoc}
 use Rattle.sizes_meet_rules.proofs.Primitives.{closed_is, closed_typed, closed_says}
+use Rattle.sizes_meet_rules.proofs.Settling.{noted}
 use Rattle.sizes_meet_rules.proofs.Showing.{numbers_some, Law_of, Wide_law}
 use Rattle.sizes_meet_rules.proofs.Using.{used_as, used_closed, use_is, suits_rules}
 
@@ -224,6 +225,24 @@ module _ (N : Names) (types : Sub) (home : ℕ → ℕ) (K : Kinds) (places : Ki
       there : ◌≡◌ {A = Answer (Done Argument)} (Ok (record { result = Early n (Some (Name b.0)) true k.size; state = before })) (Ok argument)
       there = ap (λ (x : Done Part). as_argument N types n (Use (ref.Bound b) at j) x.result x.state) (same_ok now) ∙ z
 
+  -- an application that is an argument is no name
+  no_name_there : (h b : FlatTerm) (n : ℕ) (part : Part) (st : State) (a : Done Argument) (v : Option Free) (c : Bool) (t : Size) → as_argument N types n (Apply h b) part st ≡ Ok a → a.result ≡ Early n v c t → c ≡ false
+  no_name_there h b n (Applied u r []) st a v c t q e = by_early u (ap (λ (x : Done Argument). x.result) (same_ok (now q)) ∙ e)
+    where
+      now : as_argument N types n (Apply h b) (Applied u r []) st ≡ Ok a → ◌≡◌ {A = Answer (Done Argument)} (Ok (record { result = Early n None false u; state = (noted n u st).state })) (Ok a)
+      now z = z
+
+      by_early : (u : Size) → Early n None false u ≡ Early n v c t → c ≡ false
+      by_early u z = let y : false ≡ c = cc in sym y
+  no_name_there h b n (Applied u r (x ∷ rest)) st a v c t q e = by_early x1.first.result (ap (λ (x : Done Argument). x.result) (same_ok x1.rest) ∙ e)
+    where
+      x1 : Then_ok (finished N types n (Applied u r (x ∷ rest)) st) (λ y. Ok (record { result = Early n None false y.result; state = y.state })) a
+      x1 = then_ok (finished N types n (Applied u r (x ∷ rest)) st) q
+
+      by_early : (u : Size) → Early n None false u ≡ Early n v c t → c ≡ false
+      by_early u z = let y : false ≡ c = cc in sym y
+  no_name_there h b n (Waiting f) st a v c t q e = absurd (let z : Late n f ≡ Early n v c t = ap (λ (x : Done Argument). x.result) (same_ok q) ∙ e in cc)
+
   -- a primitive by itself
   primitive_plain : (f : FlatTerm) (n : ℕ) → Is_primitive f → Plain_spine types home K places N true f n
   primitive_plain (Use (ref.Prim p) at k) n i = tt
@@ -294,10 +313,10 @@ module _ (N : Names) (types : Sub) (home : ℕ → ℕ) (K : Kinds) (places : Ki
         A = argument_meets N types home K places data_places In Vars scope e (1 + lo + numbers f) (1 + lo + numbers f + numbers e) R.function.state R.part.result R.part.state R.argument (let n = some in omega (arith, n)) pd X R.argument_is
 
         g : Given
-        g = record { node = 1 + lo + numbers f; value = A.value; named = A.named; size = A.size; term = e; width = 0; waits = None }
+        g = record { node = 1 + lo + numbers f; value = A.value; named = A.named; size = A.size; own = A.size; term = e; width = 0; waits = None }
 
         M : Data_meets N types home K places data_places In Vars scope g R.function.state R.argument.state
-        M = (record { value_is = A.value_is; inner = given_inner N types home K places data_places In Vars scope g R.function.state R.argument.state A.inner; noted = A.here; value_known = value_is_known N types home K places data_places e (1 + lo + numbers f) In Vars scope T known t.0.1 }, (pd, refl))
+        M = (given_meets_as N types home K places data_places In Vars scope (g.node + numbers g.term) g R.function.state R.argument.state refl A.value_is (given_inner N types home K places data_places In Vars scope g R.function.state R.argument.state refl A.inner) A.here (value_is_known N types home K places data_places e (1 + lo + numbers f) In Vars scope T known t.0.1), (pd, refl))
 
         by_meet : Spine_meets lambda In Vars scope S.given st R.function.state (Primitive_head N types home K In Vars scope S.term S.size S.regular S.type) → Spine_meets lambda In Vars scope (S.given ++ g ∷ []) st R.argument.state (Primitive_head N types home K In Vars scope S.term S.size S.regular S.type)
         by_meet (inl h) = inl (given_snoc N types home K places data_places In Vars scope S.given g st R.function.state R.argument.state h M)
@@ -328,7 +347,7 @@ module _ (N : Names) (types : Sub) (home : ℕ → ℕ) (K : Kinds) (places : Ki
             A = lambda_argument e (1 + lo + numbers f) In Vars scope R.function.state R.part R.argument W R.argument_is
 
             g : Given
-            g = record { node = 1 + lo + numbers f; value = None; named = false; size = Built head.Tuple no_size; term = e; width = 0; waits = Some (Late (1 + lo + numbers f) A.waits.waiting) }
+            g = record { node = 1 + lo + numbers f; value = None; named = false; size = Built head.Tuple no_size; own = Built head.Tuple no_size; term = e; width = 0; waits = Some (Late (1 + lo + numbers f) A.waits.waiting) }
 
             L : Lambda_waits N types home K places data_places In Vars scope g
             L = record { st = R.part.state; part = R.part.result; waits = A.waits; waits_is = refl; value = refl; named = refl; flat = flat }
@@ -341,10 +360,10 @@ module _ (N : Names) (types : Sub) (home : ℕ → ℕ) (K : Kinds) (places : Ki
             A = early_meets N types home K places data_places In Vars scope e (1 + lo + numbers f) (1 + lo + numbers f + numbers e) R.function.state R.part.result R.part.state R.argument (let n = some in omega (arith, n)) W R.argument_is
 
             g : Given
-            g = record { node = 1 + lo + numbers f; value = A.value; named = A.named; size = A.size; term = e; width = 0; waits = None }
+            g = record { node = 1 + lo + numbers f; value = A.value; named = A.named; size = A.size; own = A.size; term = e; width = 0; waits = None }
 
             M : Function_meets N types home K places data_places In Vars scope g R.function.state R.argument.state
-            M = (record { value_is = A.value_is; inner = given_inner N types home K places data_places In Vars scope g R.function.state R.argument.state A.inner; noted = A.here; value_known = value_is_known N types home K places data_places e (1 + lo + numbers f) In Vars scope T known t.0.1 }, (flat, refl))
+            M = (given_meets_as N types home K places data_places In Vars scope (g.node + numbers g.term) g R.function.state R.argument.state refl A.value_is (given_inner N types home K places data_places In Vars scope g R.function.state R.argument.state refl A.inner) A.here (value_is_known N types home K places data_places e (1 + lo + numbers f) In Vars scope T known t.0.1), (flat, refl))
 
         by_part : Part_meets N types home In Vars scope e (1 + lo + numbers f) (1 + lo + numbers f + numbers e) R.function.state R.part.result R.part.state → Spine lambda In Vars scope (Apply f e) lo st d
         by_part (inl W) = early (inl W)
@@ -353,7 +372,7 @@ module _ (N : Names) (types : Sub) (home : ℕ → ℕ) (K : Kinds) (places : Ki
 
     -- and a lambda that takes the parameters which are wanted of it, by a primitive
     wide_more : Wide_law N types home K places e → lambda ≡ false → Gives_data types home K places e (1 + lo + numbers f) → Is_primitive f → Spine lambda In Vars scope (Apply f e) lo st d
-    wide_more we none gives prim = more true S g refl refl A.is_late (inr (inr (none, subst (λ xs. First_waits N types home K places data_places In Vars scope (xs ++ g ∷ []) st R.argument.state) (sym no_given) (inl L, state_is), S.of_lambda refl))) no_other
+    wide_more we none gives prim = more true S g refl refl A.is_late (inr (inr (none, subst (λ xs. First_waits N types home K places data_places In Vars scope (xs ++ g ∷ []) st R.argument.state) (sym no_given) (inl (L, state_is)), S.of_lambda refl))) no_other
       where
         S : Spine true In Vars scope f (1 + lo) st R.function
         S = lf true In Vars scope T (1 + lo) st R.function (primitive_plain f (1 + lo) prim) t.0.0 known in_function R.function_is
@@ -365,7 +384,7 @@ module _ (N : Names) (types : Sub) (home : ℕ → ℕ) (K : Kinds) (places : Ki
         A = wide_argument e (1 + lo + numbers f) In Vars scope R.function.state R.part R.argument W R.argument_is
 
         g : Given
-        g = record { node = 1 + lo + numbers f; value = None; named = false; size = Fun 0 (Built head.Tuple no_size) (Built head.Tuple no_size); term = e; width = 0; waits = Some (Late (1 + lo + numbers f) A.waits.waiting) }
+        g = record { node = 1 + lo + numbers f; value = None; named = false; size = Fun 0 (Built head.Tuple no_size) (Built head.Tuple no_size); own = Fun 0 (Built head.Tuple no_size) (Built head.Tuple no_size); term = e; width = 0; waits = Some (Late (1 + lo + numbers f) A.waits.waiting) }
 
         L : Lambda_wide N types home K places data_places In Vars scope g
         L = record { st = R.part.state; part = R.part.result; waits = A.waits; waits_is = refl; value = refl; named = refl; is_fun = refl; gives = gives }
@@ -386,7 +405,7 @@ module _ (N : Names) (types : Sub) (home : ℕ → ℕ) (K : Kinds) (places : Ki
 
     -- or a name, which is used at the sizes that are wanted of it
     named_more : (r : Ref) (at : Place) (j : ℕ) → e ≡ Use r at j → lambda ≡ false → Data_function types home K places (types (1 + lo + numbers f)) → Is_primitive f → Spine lambda In Vars scope (Apply f e) lo st d
-    named_more r at j is none of_data prim = more true S g refl refl A.is_early (inr (inr (none, subst (λ xs. First_waits N types home K places data_places In Vars scope (xs ++ g ∷ []) st R.argument.state) (sym no_given) (inr L, state_is), S.of_lambda refl))) no_other
+    named_more r at j is none of_data prim = more true S g refl refl A.is_early (inr (inr (none, subst (λ xs. First_waits N types home K places data_places In Vars scope (xs ++ g ∷ []) st R.argument.state) (sym no_given) (inr (R.argument.state, (subst (λ x. Named_wide N types home K places data_places In Vars scope g x R.argument.state) (by_meet S.meet) L, refl))), S.of_lambda refl))) no_other
       where
         S : Spine true In Vars scope f (1 + lo) st R.function
         S = lf true In Vars scope T (1 + lo) st R.function (primitive_plain f (1 + lo) prim) t.0.0 known in_function R.function_is
@@ -402,21 +421,23 @@ module _ (N : Names) (types : Sub) (home : ℕ → ℕ) (K : Kinds) (places : Ki
         W = function_is A.size F.0 F.1.0 A.says.formed (A.typed ∙ F.1.1)
 
         g : Given
-        g = record { node = 1 + lo + numbers f; value = A.value; named = true; size = Fun 0 (Built head.Tuple no_size) (Built head.Tuple no_size); term = e; width = 0; waits = Some (Early (1 + lo + numbers f) A.value true A.size) }
+        g = record { node = 1 + lo + numbers f; value = A.value; named = true; size = Fun 0 (Built head.Tuple no_size) (Built head.Tuple no_size); own = Fun 0 (Built head.Tuple no_size) (Built head.Tuple no_size); term = e; width = 0; waits = Some (Early (1 + lo + numbers f) A.value true A.size) }
 
-        L : Named_wide N types home K places data_places In Vars scope g
+        L : Named_wide N types home K places data_places In Vars scope g R.function.state R.argument.state
         L = record {
           own = A.size;
           waits_is = refl;
-          named = refl;
           own_fun = ap is_function W.is_function;
           value_is = A.value_is;
           value_known = value_is_known N types home K places data_places e (1 + lo + numbers f) In Vars scope T known t.0.1;
-          says = A.says;
+          says = says_more In (With_met In (1 + lo + numbers f) (1 + lo + numbers f + numbers e)) Vars A.size (λ x i. inl i) A.says;
           typed = A.typed;
           arrows = arrows_of_type types home K places data_places (types (1 + lo + numbers f)) A.size A.says.formed A.typed of_data;
           of_function = F;
-          rules = A.rules;
+          kept = λ n o. ap (λ (x : State). x.nodes n) A.state;
+          dropped = λ n o. ap (λ (x : State). x.dropped n) A.state;
+          noted = λ z. absurd (let y : true ≡ false = z in cc);
+          rules = λ s G J u h z a. A.rules s G J (subst (Suits A.size) (sym z) h);
         }
 
         no_given : S.given ≡ []
@@ -427,13 +448,65 @@ module _ (N : Names) (types : Sub) (home : ℕ → ℕ) (K : Kinds) (places : Ki
         by_meet (inr (inl h)) = absurd (let z : true ≡ false = h.0 in cc)
         by_meet (inr (inr h)) = absurd (let z : true ≡ false = h.0 in cc)
 
-        state_is : R.argument.state ≡ st
-        state_is = A.state ∙ by_meet S.meet
+        no_other : lambda ≡ true → Primitive_head N types home K In Vars scope S.term S.size S.regular S.type
+        no_other z = absurd (let y : true ≡ false = sym z ∙ none in cc)
+
+    -- or an application that gives a function, which is used at the sizes that are wanted of it
+    section_more : (h b : FlatTerm) → e ≡ Apply h b → lambda ≡ false → Data_function types home K places (types (1 + lo + numbers f)) → Is_primitive f → Spine lambda In Vars scope (Apply f e) lo st d
+    section_more h b is none of_data prim = more true S g refl refl (A.is_early ∙ ap (λ c. Early (1 + lo + numbers f) A.value c A.size) unnamed) (inr (inr (none, subst (λ xs. First_waits N types home K places data_places In Vars scope (xs ++ g ∷ []) st R.argument.state) (sym no_given) (inr (R.argument.state, (subst (λ x. Named_wide N types home K places data_places In Vars scope g x R.argument.state) (by_meet S.meet) L, refl))), S.of_lambda refl))) no_other
+      where
+        S : Spine true In Vars scope f (1 + lo) st R.function
+        S = lf true In Vars scope T (1 + lo) st R.function (primitive_plain f (1 + lo) prim) t.0.0 known in_function R.function_is
+
+        by_part : Part_meets N types home In Vars scope e (1 + lo + numbers f) (1 + lo + numbers f + numbers e) R.function.state R.part.result R.part.state → Whole_meets N types home In Vars scope e (1 + lo + numbers f) (1 + lo + numbers f + numbers e) R.function.state R.part.result R.part.state ⊎ Is_applied N types home In Vars scope e (1 + lo + numbers f) (1 + lo + numbers f + numbers e) R.function.state R.part.result R.part.state
+        by_part (inl W) = inl W
+        by_part (inr (inl W)) = absurd (subst Is_lambda is W.is_lambda)
+        by_part (inr (inr W)) = inr W
+
+        A : Argument_meets N types home K places data_places In Vars scope e (1 + lo + numbers f) (1 + lo + numbers f + numbers e) R.function.state R.argument.result R.argument.state
+        A = early_meets N types home K places data_places In Vars scope e (1 + lo + numbers f) (1 + lo + numbers f + numbers e) R.function.state R.part.result R.part.state R.argument (let n = some in omega (arith, n)) (by_part X) R.argument_is
+
+        unnamed : A.named ≡ false
+        unnamed = no_name_there h b (1 + lo + numbers f) R.part.result R.part.state R.argument A.value A.named A.size (ap (λ x. as_argument N types (1 + lo + numbers f) x R.part.result R.part.state) (sym is) ∙ R.argument_is) A.is_early
+
+        F : (a : Ty) × ((c : Ty) × (types (1 + lo + numbers f) ≡ fun_ty a c))
+        F = data_function_is types home K places data_places (types (1 + lo + numbers f)) of_data
+
+        W : Function_size A.size F.0 F.1.0
+        W = function_is A.size F.0 F.1.0 A.inner.says.formed (A.inner.typed ∙ F.1.1)
+
+        g : Given
+        g = record { node = 1 + lo + numbers f; value = A.value; named = false; size = Fun 0 (Built head.Tuple no_size) (Built head.Tuple no_size); own = Fun 0 (Built head.Tuple no_size) (Built head.Tuple no_size); term = e; width = 0; waits = Some (Early (1 + lo + numbers f) A.value false A.size) }
+
+        L : Named_wide N types home K places data_places In Vars scope g R.function.state R.argument.state
+        L = record {
+          own = A.size;
+          waits_is = refl;
+          own_fun = ap is_function W.is_function;
+          value_is = A.value_is;
+          value_known = value_is_known N types home K places data_places e (1 + lo + numbers f) In Vars scope T known t.0.1;
+          says = A.inner.says;
+          typed = A.inner.typed;
+          arrows = arrows_of_type types home K places data_places (types (1 + lo + numbers f)) A.size A.inner.says.formed A.inner.typed of_data;
+          of_function = F;
+          kept = A.inner.kept;
+          dropped = A.inner.dropped;
+          noted = λ z. A.here unnamed;
+          rules = λ s G J u k z a. A.inner.rules s G J z a;
+        }
+
+        no_given : S.given ≡ []
+        no_given = none_given f S.term S.given prim S.is
+
+        by_meet : Spine_meets true In Vars scope S.given st R.function.state (Primitive_head N types home K In Vars scope S.term S.size S.regular S.type) → R.function.state ≡ st
+        by_meet (inl h) = subst (λ xs. All_given N types home K places data_places In Vars scope xs st R.function.state) no_given h
+        by_meet (inr (inl h)) = absurd (let z : true ≡ false = h.0 in cc)
+        by_meet (inr (inr h)) = absurd (let z : true ≡ false = h.0 in cc)
 
         no_other : lambda ≡ true → Primitive_head N types home K In Vars scope S.term S.size S.regular S.type
         no_other z = absurd (let y : true ≡ false = sym z ∙ none in cc)
 
-    -- such a lambda or such a name
+    -- such a lambda, such a name or such an application
     first_more : (Is_lambda e → Wide_law N types home K places e) → lambda ≡ false → Gives_data types home K places e (1 + lo + numbers f) ⊎ Used_function types home K places e (1 + lo + numbers f) → Is_primitive f → Spine lambda In Vars scope (Apply f e) lo st d
     first_more we none (inl gives) prim = wide_more (we (gives_lambda types home K places e (1 + lo + numbers f) gives)) none gives prim
     first_more we none (inr used) prim = by_term e refl used
@@ -442,7 +515,7 @@ module _ (N : Names) (types : Sub) (home : ℕ → ℕ) (K : Kinds) (places : Ki
         by_term (Use r at j) is h = named_more r at j is none h prim
         by_term (Strict o mark ts) is h = absurd h
         by_term (Lambda ps b) is h = absurd h
-        by_term (Apply h1 b) is h = absurd h
+        by_term (Apply g b) is h = section_more g b is none h prim
         by_term (Let b v y) is h = absurd h
         by_term (If c a b) is h = absurd h
         by_term (Loop mark sizes p first turns body) is h = absurd h

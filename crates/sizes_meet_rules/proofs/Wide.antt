@@ -13,7 +13,7 @@ use Rattle.fut_typing.specs.Names.{Names}
 use Rattle.fut_typing.specs.Patterns.{pattern_types, arrows}
 use Rattle.sized_types.specs.Sizes.{Free, Variable, Size, Hole, Open, Level, Built, Fun, no_size, erased, all_erased}
 use Rattle.fut_sizes.specs.Agreeing.{Answer, then_do}
-use Rattle.fut_sizes.specs.Applications.{Want, Met, Argument, Late, is_function}
+use Rattle.fut_sizes.specs.Applications.{Want, Met, Argument, Early, Late, is_function}
 use Rattle.fut_sizes.specs.Functions.{is_slot}
 use Rattle.fut_sizes.specs.Matching.{Found, made_at, none_opened, function_way, meet}
 use Rattle.fut_sizes.specs.Scopes.{Scope}
@@ -29,7 +29,7 @@ use Rattle.sizes_meet_rules.proofs.Fitting.{Plain_arrows, plain_arrows, data_alo
 use Rattle.sizes_meet_rules.proofs.Lambdas.{Wants_formed, wanted_of, found_behind, Lambda_result}
 use Rattle.sizes_meet_rules.proofs.Later.{own_state, with_size, data_wants, lambda_argument}
 use Rattle.sizes_meet_rules.proofs.Meeting.{order, each_scoped, With_met, met_wider, met_outside, met_no_slot, elsewhere_narrower, In_nodes, Around, Lambda_typed, Data_wanted, Data_lambda, Stands_lambda, Same_parameters, Same_lambda, Wide_ran}
-use Rattle.sizes_meet_rules.proofs.Parts.{gives_lambda, Given_inner, Given_meets, Lambda_wide, Later_part}
+use Rattle.sizes_meet_rules.proofs.Parts.{gives_lambda, Early_given, Given_inner, Given_meets, given_meets_as, Lambda_wide, Later_part}
 
 -- ---- what such a lambda gives, if it is not refused
 
@@ -207,20 +207,21 @@ module _ (N : Names) (types : Sub) (home : ℕ → ℕ) (K : Kinds) (places : Ki
         by_place s n (inr x) h a y z = subst (λ k. s k ≡ W.met.state.nodes k) (let q : g.node ≡ n = omega (arith, x, z) in q) (h ∙ size_is ∙ sym W.ran.here)
 
     pub wide_meets : Given_meets N types home K places data_places In Vars scope hi now_wide A wide_state
-    wide_meets = record { value_is = inl L.value; inner = wide_inner; noted = λ z. ap (λ (y : State). y.nodes g.node) state_is ∙ W.ran.here ∙ sym size_is; value_known = lambda_argument N types home K places data_places In Vars scope g.term (types g.node) (gives_lambda types home K places g.term g.node L.gives) }
+    wide_meets = given_meets_as N types home K places data_places In Vars scope hi now_wide A wide_state refl (inl L.value) wide_inner (λ z. ap (λ (y : State). y.nodes g.node) state_is ∙ W.ran.here ∙ sym size_is) (lambda_argument N types home K places data_places In Vars scope g.term (types g.node) (gives_lambda types home K places g.term g.node L.gives))
 
     -- what it leaves as it is
     pub wide_later : (gs : List Given) → Later_part N types home K places data_places In Vars scope A wide_state (now_wide ∷ gs)
     wide_later gs = record { nodes = λ x o. nodes x o.0; dropped = λ x o. dropped x o.0 }
       where
-        not_none : g.waits ≡ None → ⊥
-        not_none e = let z : ◌≡◌ {A = Option Argument} (Some (Late g.node L.waits.waiting)) None = sym L.waits_is ∙ e in cc
+        not_none : (g.waits ≡ None) ⊎ Early_given N types home K places data_places In Vars scope g → ⊥
+        not_none (inl e) = let z : ◌≡◌ {A = Option Argument} (Some (Late g.node L.waits.waiting)) None = sym L.waits_is ∙ e in cc
+        not_none (inr w) = let z : ◌≡◌ {A = Option Argument} (Some (Late g.node L.waits.waiting)) (Some (Early g.node g.value g.named w.0)) = sym L.waits_is ∙ w.1 in cc
 
-        nodes : (x : ℕ) → ((x < g.node) ⊎ (g.node + numbers g.term ≤ x)) ⊎ (g.waits ≡ None) → wide_state.nodes x ≡ A.nodes x
+        nodes : (x : ℕ) → ((x < g.node) ⊎ (g.node + numbers g.term ≤ x)) ⊎ ((g.waits ≡ None) ⊎ Early_given N types home K places data_places In Vars scope g) → wide_state.nodes x ≡ A.nodes x
         nodes x (inl o) = ap (λ (y : State). y.nodes x) state_is ∙ W.ran.kept x o
         nodes x (inr e) = absurd (not_none e)
 
-        dropped : (x : ℕ) → ((x < g.node) ⊎ (g.node + numbers g.term ≤ x)) ⊎ (g.waits ≡ None) → wide_state.dropped x ≡ A.dropped x
+        dropped : (x : ℕ) → ((x < g.node) ⊎ (g.node + numbers g.term ≤ x)) ⊎ ((g.waits ≡ None) ⊎ Early_given N types home K places data_places In Vars scope g) → wide_state.dropped x ≡ A.dropped x
         dropped x (inl o) = ap (λ (y : State). y.dropped x) state_is ∙ W.ran.dropped x o
         dropped x (inr e) = absurd (not_none e)
 

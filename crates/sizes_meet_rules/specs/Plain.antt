@@ -1,7 +1,7 @@
 -- The terms of which the law speaks: names, operations, functions of data, lets of data and of functions, branches, loops and
 -- applications of names and primitives to arguments of data; a primitive is applied to all that it takes, and one of them may be a
--- function whose parameters have no arrays, and which gives data, or the first of them a lambda or the name of a function that
--- takes and gives data; a name may be applied to fewer. Programs are of functions, numbers and
+-- function whose parameters have no arrays, and which gives data, or the first of them a lambda, a name or an application of
+-- this kind whose function takes and gives data; a name may be applied to fewer, and a reduction to all but its array. Programs are of functions, numbers and
 -- other data whose sizes are told. A node that binds a name is the home of that name.
 use Rattle.std.specs.Prelude.{◌≡◌, ◌⊎◌, ℕ, ◌+◌, Bool, true, false, List, [], ◌∷◌, None}
 use Rattle.fut_scalar.specs.declared.place.BindId.{BindId}
@@ -132,6 +132,19 @@ Is_closed prim.Iota = Unit {0}
 Is_closed (prim.Fold f own) = Unit {0}
 Is_closed p = ⊥
 
+-- goes over an array behind a function and a value
+abbrev pub Reduces : Primitive → Type 0
+Reduces prim.Reduce = Unit {0}
+Reduces prim.ReduceComm = Unit {0}
+Reduces prim.Scan = Unit {0}
+Reduces p = ⊥
+
+-- such a primitive applied to arguments
+abbrev pub Is_reduction : FlatTerm → Type 0
+Is_reduction (Use (ref.Prim p) at k) = Reduces p
+Is_reduction (Apply f e) = Is_reduction f
+Is_reduction e = ⊥
+
 -- a function under a name
 abbrev pub Is_lambda : FlatTerm → Type 0
 Is_lambda (Lambda (pattern_and p ps) e) = Unit {0}
@@ -223,9 +236,15 @@ module _ (types : Sub) (home : ℕ → ℕ) (K : Kinds) (places : Kind) where
   Data_function (Made head.Fun (more p (more r none))) = HasKind K places p × (HasKind K places r ⊎ Data_function r)
   Data_function t = ⊥
 
-  -- a name or a primitive of such a type
+  -- one of data, which gives data
+  abbrev pub One_left : Ty → Type 0
+  One_left (Made head.Fun (more p (more r none))) = HasKind K places p × HasKind K places r
+  One_left t = ⊥
+
+  -- a name, a primitive or an application of such a type
   abbrev pub Used_function : FlatTerm → ℕ → Type 0
   Used_function (Use r at k) lo = Data_function (types lo)
+  Used_function (Apply f e) lo = Data_function (types lo)
   Used_function e lo = ⊥
 
   -- a lambda whose body is data
@@ -242,9 +261,9 @@ module _ (types : Sub) (home : ℕ → ℕ) (K : Kinds) (places : Kind) where
       Plain_term (Strict o mark ts) lo = Plain_operation N o (types lo) ts × Plain_terms ts (lo + own_numbers o)
       Plain_term (Lambda (pattern_and p ps) e) lo = Plain_patterns (pattern_and p ps) (1 + lo) × Plain_term e (1 + lo + all_pattern_numbers (pattern_and p ps))
       -- a function by its name, or a primitive, applied to arguments of data; a primitive may take one function of parameters without
-      -- arrays, which gives data, or as its first argument a lambda or a name of data, which gives data. The result is data, or
-      -- a function by its name has arguments left
-      Plain_term (Apply f e) lo = (HasKind K places (types lo) ⊎ Is_call f) × (((HasKind K places (types (1 + lo + numbers f)) × Plain_spine false f (1 + lo)) ⊎ (((false ≡ false) × Flat_function (types (1 + lo + numbers f)) × Plain_spine true f (1 + lo)) ⊎ ((false ≡ false) × (Gives_data e (1 + lo + numbers f) ⊎ Used_function e (1 + lo + numbers f)) × Is_primitive f))) × Plain_term e (1 + lo + numbers f))
+      -- arrays, which gives data, or as its first argument a lambda, a name or an application of data, which gives data. The result
+      -- is data, or a function by its name has arguments left, or a reduction its array
+      Plain_term (Apply f e) lo = (HasKind K places (types lo) ⊎ (Is_call f ⊎ (One_left (types lo) × Is_reduction f))) × (((HasKind K places (types (1 + lo + numbers f)) × Plain_spine false f (1 + lo)) ⊎ (((false ≡ false) × Flat_function (types (1 + lo + numbers f)) × Plain_spine true f (1 + lo)) ⊎ ((false ≡ false) × (Gives_data e (1 + lo + numbers f) ⊎ Used_function e (1 + lo + numbers f)) × Is_primitive f))) × Plain_term e (1 + lo + numbers f))
       Plain_term (Let b v e) lo = Plain_let N b.is_function b.sizes b.parameters b.pattern v (1 + lo) × (composition b e ≡ None)
           × (HasKind K places (types (1 + lo + pattern_numbers b.pattern)) ⊎ (Is_lambda v × Is_bound b.pattern)) × Plain_term v (1 + lo + pattern_numbers b.pattern) × Plain_term e (1 + lo + pattern_numbers b.pattern + numbers v)
       Plain_term (If c a b) lo = Plain_term c (1 + lo) × Plain_term a (1 + lo + numbers c) × Plain_term b (1 + lo + numbers c + numbers a)

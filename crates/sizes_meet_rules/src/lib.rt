@@ -6,14 +6,14 @@
 //! local functions without type variables, loops, branches, a name's function applied to arguments of data, to all or to
 //! fewer, and a primitive applied to all of its arguments: data, and where it takes a function one whose parameters have no
 //! arrays and which gives data, be it a lambda, a name, a section or what another term gives, or as the first of them a
-//! lambda, a name or a primitive that takes and gives data; the results of all these are data; patterns are names and parts
-//! of tuples and records, with written types or without, and one name with a written type may name sizes; functions under a
-//! name may have size parameters; and for programs whose definitions are functions of such terms, or such terms of type i64,
-//! which are sizes for those behind them, or of another type that is the same in all uses and has no arrays, or is written
-//! with all of its sizes (`proofs/Declaring.antt`). Of others nothing is claimed yet: other applications (of primitives to
-//! fewer arguments, to other functions), general names with type variables, sizes that parts of a pattern name, parameters of
-//! type variables, written types of functions, other definitions of data. `proofs/Unmet.antt` has what a rule asks and the
-//! pass does not give.
+//! lambda, a name, a primitive or an application whose function takes and gives data; the results of all these are data, and
+//! a reduction may lack its array; patterns are names and parts of tuples and records, with written types or without, and one
+//! name with a written type may name sizes; functions under a name may have size parameters; and for programs whose
+//! definitions are functions of such terms, or such terms of type i64, which are sizes for those behind them, or of another
+//! type that is the same in all uses and has no arrays, or is written with all of its sizes (`proofs/Declaring.antt`). Of
+//! others nothing is claimed yet: other applications (of primitives to fewer arguments, to other functions), general names
+//! with type variables, sizes that parts of a pattern name, parameters of type variables, written types of functions, other
+//! definitions of data. `proofs/Unmet.antt` has what a rule asks and the pass does not give.
 //!
 //! `specs/Known.antt` says what is known of the names in scope. The proof goes by structure (`proofs/Walking.antt`): of each
 //! term it says which sizes stand in its sized type, which nodes are noted, and that they meet the rules
@@ -30,9 +30,9 @@
 //! `proofs/Primitives.antt`, `proofs/Heads.antt`). A lambda that a primitive takes is sized behind the other arguments, as by
 //! itself (`proofs/Wanting.antt`, `proofs/Later.antt`), and then has the type that is wanted (`proofs/Fitting.antt`,
 //! `proofs/Lambdas.antt`). One that takes arrays takes the sizes that are wanted of it (`proofs/Coming.antt`,
-//! `proofs/Wide.antt`), which are found behind its parameters (`proofs/Finding.antt`). A name that takes arrays is used at
-//! the sizes that are wanted of it (`proofs/Opening.antt`, `proofs/Choosing.antt`, `proofs/Named.antt`). Definitions stand in
-//! a row (`proofs/Defining.antt`).
+//! `proofs/Wide.antt`), which are found behind its parameters (`proofs/Finding.antt`). A name or an application that takes
+//! arrays is used at the sizes that are wanted of it (`proofs/Opening.antt`, `proofs/Choosing.antt`, `proofs/Named.antt`).
+//! Definitions stand in a row (`proofs/Defining.antt`).
 #![tactic(auto)]
 
 mod laws;
