@@ -144,25 +144,9 @@ module _ (budget : ℕ) (at : Place) (us : List Atom) (r : Bundle) (S S' : State
 
 -- ---- the same of operations as they lie in Core
 
-module _ (budget : ℕ) (o : Op) (at : Place) (us : Bor (List Atom)) (r : Rows) (S S' : State) (s1 : List ℕ) (mark : ℕ) (p : mark ≡ length S.stack) (h : Reads_all S.words us.now S.stack s1 (Ok tt)) where
-  module _ (xs ys : Bor (List Var)) (b : Bor Block) (e : o ≡ op.ForIn xs us ys r b) where
-    same_for_in : action_of o at ≡ For_in at xs.now us.now ys.now (bundle_form r) (body_of b.now)
-    same_for_in = ap (λ z. action_of z at) e ∙ action_of-ForIn xs us ys r b at
+module _ (budget : ℕ) (o : Op) (at : Place) (us : Bor (List Atom)) (r : Rows) (S S' : State) (a : Answer) where
+  pub op_for_in : (xs ys : Bor (List Var)) (b : Bor Block) → o ≡ op.ForIn xs us ys r b → Act_runs budget (For_in at xs.now us.now ys.now (bundle_form r) (body_of b.now)) S S' a → Act_runs budget (action_of o at) S S' a
+  op_for_in xs ys b e h = subst (λ z. Act_runs budget z S S' a) (sym (ap (λ z. action_of z at) e ∙ action_of-ForIn xs us ys r b at)) h
 
-    pub op_for_in_failed : (f : Stop) → Bundle_counted S.words S.arena.arrays (bundle_form r) at (Err f) → Act_runs budget (action_of o at) S S' (Err f)
-    op_for_in_failed f k = subst (λ a. Act_runs budget a S S' (Err f)) (sym same_for_in) (for_in_failed budget at us.now (bundle_form r) S S' s1 mark p h xs.now ys.now (body_of b.now) f k)
-
-    pub op_for_in : (count : ℕ) (a : Answer) → Bundle_counted S.words S.arena.arrays (bundle_form r) at (Ok count) → Fold_runs budget (body_of b.now) xs.now ys.now (bundle_form r) count mark (state S.arena S.words s1) S' a → Act_runs budget (action_of o at) S S' a
-    op_for_in count a k x = subst (λ z. Act_runs budget z S S' a) (sym same_for_in) (for_in_done budget at us.now (bundle_form r) S S' s1 mark p h xs.now ys.now (body_of b.now) count a k x)
-
-  module _ (f : Operator) (e : o ≡ op.Reduce us r f) where
-    same_reduce : action_of o at ≡ Reduce at us.now (bundle_form r) (Of_two (out-Operator f).left.now (out-Operator f).right.now (body_of (out-Operator f).body.now))
-    same_reduce = ap (λ z. action_of z at) e ∙ action_of-Reduce us r f at ∙ ap (Reduce at us.now (bundle_form r)) (function_of-parts f)
-
-    pub op_reduce_failed : (g : Stop) → Bundle_counted S.words S.arena.arrays (bundle_form r) at (Err g) → Act_runs budget (action_of o at) S S' (Err g)
-    op_reduce_failed g k =
-        subst (λ a. Act_runs budget a S S' (Err g)) (sym same_reduce) (reduce_failed budget at us.now (bundle_form r) S S' s1 mark p h (out-Operator f).left.now (out-Operator f).right.now (body_of (out-Operator f).body.now) g k)
-
-    pub op_reduce : (count : ℕ) (a : Answer) → Bundle_counted S.words S.arena.arrays (bundle_form r) at (Ok count) → Fold_runs budget (body_of (out-Operator f).body.now) (out-Operator f).left.now (out-Operator f).right.now (bundle_form r) count mark (state S.arena S.words s1) S' a → Act_runs budget (action_of o at) S S' a
-    op_reduce count a k x =
-        subst (λ z. Act_runs budget z S S' a) (sym same_reduce) (reduce_done budget at us.now (bundle_form r) S S' s1 mark p h (out-Operator f).left.now (out-Operator f).right.now (body_of (out-Operator f).body.now) count a k x)
+  pub op_reduce : (f : Operator) → o ≡ op.Reduce us r f → Act_runs budget (Reduce at us.now (bundle_form r) (Of_two (out-Operator f).left.now (out-Operator f).right.now (body_of (out-Operator f).body.now))) S S' a → Act_runs budget (action_of o at) S S' a
+  op_reduce f e h = subst (λ z. Act_runs budget z S S' a) (sym (ap (λ z. action_of z at) e ∙ action_of-Reduce us r f at ∙ ap (Reduce at us.now (bundle_form r)) (function_of-parts f))) h

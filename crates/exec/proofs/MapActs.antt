@@ -33,6 +33,7 @@ use Rattle.core_code.specs.Answers.{Answer, Runs, ran, failed, no_memory}
 use Rattle.core_code.specs.Runs.{Act_runs}
 use Rattle.core_code.specs.declared.stop.Stop.{Stop}
 use Rattle.core_code.proofs.Frames.{the_is}
+use Rattle.core_steps.specs.Empties.{None_told}
 use Rattle.core_steps.specs.Gluing.{sorts_at, RowsShow, GluedTold, glued_told, glue_failed, no_glue, Glued_told}
 use Rattle.core_steps.specs.Sources.{SourceTold, source_told, source_failed, no_source, Source_counted}
 use Rattle.exec.specs.Maps.{applied, EachRan, each_ran, each_failed, no_memory_each, Each_runs}
@@ -156,18 +157,24 @@ module _ (budget : ℕ) (at : Place) (source : Source) (told : List (List Atom))
         by_source out ss gb bd td _ q (source_told rows y) =
             by_each out ss (body_sorts (with_vars xs G) b ss gb) bd td rows y (k G env n ss rows (record { mid = mid; last = last; stands = st; rises = u; gives = gs; at = at; read = y; typed = gb; numbered = nb }) q)
 
--- ---- the same of an operation as it lies in Core
+    pub map_glued : (mark : ℕ) (S1 S2 : State) (a : Answer) → (count ≡ 0 → ⊥) → mark ≡ length S.stack → Each_runs budget (body_of b) xs source count S S1 (Ok tt) → (us : List Atom) → us ≡ (out-Block b).results.now → Glued_told us count mark at S1 S2 a → S2.words ≡ S1.words → Act_runs budget (Map at source told xs (body_of b)) S S2 a
+    map_glued mark S1 S2 a ne p k us q g w = map_done mark S1 S2 a ne p k (subst (λ z. Glued_told z count mark at S1 S2 a) q g) w
 
-module _ (budget : ℕ) (o : Op) (at : Place) (s : Over) (told : Bor (List (Bor (List Atom)))) (xs : Bor (List Var)) (b : Bor Block) (S : State) (e : o ≡ op.Map s told xs b) where
-  same_map : action_of o at ≡ Map at (source_form s) (map group told.now) xs.now (body_of b.now)
-  same_map = ap (λ z. action_of z at) e ∙ action_of-Map s told xs b at
+    pub map_none : (S2 : State) (a : Answer) → count ≡ 0 → None_told told at S S2 a → S2.words ≡ S.words → Act_runs budget (Map at source told xs (body_of b)) S S2 a
+    unfolding Source_counted None_told Act_runs act_means Act_numbered
+    map_none S2 a z g w G env _ n last st (map_gives {sizes = sizes} {row = row} {out = out} gs gb gt ga bd) nb = by_source out count refl (g G env n sizes row out st gt ga bd) (h G env n (map sort_of xs) st gs)
+      where
+        by_glue : {a : Answer} (out : List Sort) → source_rows false at env source ≡ Val [] → GluedTold (collected false at env told []) out S.stack S S2 a → Runs (mapped env) out n S S2 a
+        by_glue out y (glued_told cs ws e sh q m) =
+            ran cs ws (0 + (0 + (0 + array_words cs))) q sh (record { words = λ x l. ap (λ t. slice_get t x) w; arrays = m.arrays; handed = omega (arith, m.handed) })
+            (goes_on (the_is (source_rows false at env source) (Val []) y) (goes_on exact (goes_on (the_is (collected false at env told []) (Val cs) e) exact)))
+        by_glue out y (glue_failed {r} e) = failed (0 + (0 + 0)) (goes_on (the_is (source_rows false at env source) (Val []) y) (goes_on exact (stops (the_is (collected false at env told []) (Fail r) e))))
+        by_glue out y no_glue = no_memory
 
-  pub op_map_failed : (S' : State) (f : Stop) → Source_counted S.words S.arena.arrays (source_form s) at (Err f) → Act_runs budget (action_of o at) S S' (Err f)
-  op_map_failed S' f h = subst (λ z. Act_runs budget z S S' (Err f)) (sym same_map) (map_failed budget at (source_form s) (map group told.now) xs.now b.now S S' f h)
+        by_source : (out : List Sort) (c : ℕ) → c ≡ count → GluedTold (collected false at env told []) out S.stack S S2 a → SourceTold (source_rows false at env source) (Ok c) → Runs (mapped env) out n S S2 a
+        by_source out _ q g (source_told [] y) = by_glue out y g
+        by_source out _ q g (source_told (r ∷ rows) y) = absurd (omega (arith, q, z))
 
-  pub op_map_stopped : (count : ℕ) → Source_counted S.words S.arena.arrays (source_form s) at (Ok count) → (S' : State) (f : Stop) → Each_runs budget (body_of b.now) xs.now (source_form s) count S S' (Err f) → Act_runs budget (action_of o at) S S' (Err f)
-  op_map_stopped count h S' f k = subst (λ z. Act_runs budget z S S' (Err f)) (sym same_map) (map_stopped budget at (source_form s) (map group told.now) xs.now b.now S count h S' f k)
-
-  pub op_map : (count : ℕ) → Source_counted S.words S.arena.arrays (source_form s) at (Ok count) → (mark : ℕ) (S1 S2 : State) (a : Answer) → (count ≡ 0 → ⊥) → mark ≡ length S.stack → Each_runs budget (body_of b.now) xs.now (source_form s) count S S1 (Ok tt) → (us : List Atom) → us ≡ (out-Block b.now).results.now → Glued_told us count mark at S1 S2 a → S2.words ≡ S1.words → Act_runs budget (action_of o at) S S2 a
-  op_map count h mark S1 S2 a ne p k us q g w =
-      subst (λ z. Act_runs budget z S S2 a) (sym same_map) (map_done budget at (source_form s) (map group told.now) xs.now b.now S count h mark S1 S2 a ne p k (subst (λ z. Glued_told z count mark at S1 S2 a) q g) w)
+-- the same of an operation as it lies in Core
+pub op_map : (budget : ℕ) (o : Op) (at : Place) (s : Over) (told : Bor (List (Bor (List Atom)))) (xs : Bor (List Var)) (b : Bor Block) (S S' : State) (a : Answer) → o ≡ op.Map s told xs b → Act_runs budget (Map at (source_form s) (map group told.now) xs.now (body_of b.now)) S S' a → Act_runs budget (action_of o at) S S' a
+op_map budget o at s told xs b S S' a e h = subst (λ z. Act_runs budget z S S' a) (sym (ap (λ z. action_of z at) e ∙ action_of-Map s told xs b at)) h

@@ -2,7 +2,6 @@
 use Rattle.std.proofs.Common.{◌≡◌, ℕ, suc, ◌+◌, ◌<◌, List, [], ◌∷◌, ◌++◌, length, map, drop, slice_get, Some, Ok, Err, refl, sym, ap, ◌∙◌, subst, arith, add-one, append_assoc}
 use Rattle.std.proofs.lemmas.List.{append-nil, length-append}
 use Rattle.fut_meaning.specs.Outcomes.{Val, Fail, Rel, exact, gives, Then, goes_on, stops, sticks, each_of}
-use Rattle.fut_meaning.specs.Sames.{all_none, all_more}
 use Rattle.core_arrays.specs.Arenas.{Array}
 use Rattle.core_ir.specs.declared.block.Var.{Var}
 use Rattle.core_ir.specs.declared.block.Atom.{Atom}
@@ -10,17 +9,16 @@ use Rattle.core_ir.specs.declared.block.Block.{Block, out-Block}
 use Rattle.core_ir.specs.Bundles.{Row}
 use Rattle.core_ir.specs.Meaning.{Env, Results}
 use Rattle.core_ir.specs.Plain.{Action, Body, Source, lets, binding_of, body_of}
-use Rattle.core_ir.specs.Typed.{Sort, Sorts, sort_of, with_vars, Atoms_are, Body_gives, give_gives, let_gives}
+use Rattle.core_ir.specs.Typed.{Sort, Sorts, sort_of, with_vars, Body_gives, give_gives, let_gives}
 use Rattle.core_ir.proofs.Layers.{body_of-parts}
-use Rattle.core_code.specs.Registers.{State, elem_of, rank_of, AllShow, Kept}
+use Rattle.core_code.specs.Registers.{State, AllShow, Kept}
 use Rattle.core_code.specs.Answers.{Answer, Runs, ran, failed, no_memory}
 use Rattle.core_code.specs.Runs.{with_stack}
 use Rattle.core_code.specs.declared.stop.Stop.{Stop}
 use Rattle.core_code.specs.declared.stop.Stop.TheVariants.{Memory}
 use Rattle.core_code.proofs.Frames.{Leads, leads_same, leads_trans, runs_on, kept_same, kept_trans, stands_kept, stands_on, all_show_on}
-use Rattle.core_code.proofs.Reading.{elem_is}
-use Rattle.core_steps.proofs.Taking.{rank_is}
-use Rattle.core_steps.specs.Gluing.{sort_at, sorts_at, RowsShow, no_rows_shown, row_shown_and}
+use Rattle.core_steps.proofs.Literals.{results_sorts, rows_append}
+use Rattle.core_steps.specs.Gluing.{sorts_at, RowsShow, no_rows_shown, row_shown_and}
 use Rattle.core_steps.specs.Rows.{RowPushed, row_pushed}
 use Rattle.core_steps.specs.Sources.{Source_pushed}
 use Rattle.exec.specs.Folds.{Under_runs}
@@ -57,10 +55,10 @@ pub ruleset elements = (element_memory)
 -- ---- all rows
 
 -- the rows so far before those of the rest
-abbrev pub then_all : List Row → Rel (List Row) → Rel (List Row)
+abbrev pub then_all : {A : Type 0} → List A → Rel (List A) → Rel (List A)
 then_all outs m = Then m (λ ys. gives 0 (outs ++ ys))
 
-one_result : (outs : List Row) (y : Row) (f : ℕ) (m : Results) (rest : Rel (List Row)) → m (Val y) f → Leads f (then_all outs (Then m (λ y. Then rest (λ ys. gives 0 (y ∷ ys))))) (then_all (outs ++ y ∷ []) rest)
+pub one_result : {A : Type 0} (outs : List A) (y : A) (f : ℕ) (m : Rel A) (rest : Rel (List A)) → m (Val y) f → Leads f (then_all outs (Then m (λ y. Then rest (λ ys. gives 0 (y ∷ ys))))) (then_all (outs ++ y ∷ []) rest)
 one_result outs y f m rest h _ _ (goes_on {a = ys} {f = g} k exact) =
     (f + (g + 0) + 0, subst (λ z. then_all outs (Then m (λ y. Then rest (λ ys. gives 0 (y ∷ ys)))) (Val z) (f + (g + 0) + 0)) (sym (append_assoc outs (y ∷ []) ys)) (goes_on (goes_on h (goes_on k exact)) exact), omega arith)
 one_result outs y f m rest h _ _ (stops {r = r} {f = g} k) = (f + g, stops (goes_on h (stops k)), omega arith)
@@ -74,7 +72,7 @@ unfoldable pub Each_goes : ℕ → Body → List Var → Source → ℕ → ℕ 
 Each_goes budget b xs source count j S0 S =
     (G : Sorts) (env : Env) (n : ℕ) (ss : List Sort) (rows : List Row) → Mapping G env xs source b ss n rows S0 → length rows ≡ count → Each_so (each_of (applied budget b xs env) rows) (each_of (applied budget b xs env) (drop j rows)) ss j n S0 S
 
-mapping_on : (G : Sorts) (env : Env) (xs : List Var) (source : Source) (b : Body) (ss : List Sort) (n : ℕ) (rows : List Row) (S0 S : State) (c : ℕ) → Kept n S0 S c → Mapping G env xs source b ss n rows S0 → Mapping G env xs source b ss n rows S
+pub mapping_on : (G : Sorts) (env : Env) (xs : List Var) (source : Source) (b : Body) (ss : List Sort) (n : ℕ) (rows : List Row) (S0 S : State) (c : ℕ) → Kept n S0 S c → Mapping G env xs source b ss n rows S0 → Mapping G env xs source b ss n rows S
 mapping_on G env xs source b ss n rows S0 S c k on =
     record { mid = on.mid; last = on.last; stands = stands_kept G env n S0 S c on.stands k; rises = on.rises; gives = on.gives; at = on.at; read = on.read; typed = on.typed; numbered = on.numbered }
 
@@ -82,12 +80,7 @@ rows_on : (rs rs' : List Array) (ss : List Sort) (rows : List Row) (ws : List �
 rows_on rs rs' ss _ _ g no_rows_shown = no_rows_shown
 rows_on rs rs' ss _ _ g (row_shown_and {row = row} {rows = rows} {ws = ws} {vs = vs} x sh) = row_shown_and (all_show_on rs rs' ss row ws g x) (rows_on rs rs' ss rows vs g sh)
 
-rows_append : (rs : List Array) (ss : List Sort) (rows : List Row) (ws : List ℕ) (row : Row) (vs : List ℕ) → RowsShow rs ss rows ws → AllShow rs ss row vs → RowsShow rs ss (rows ++ row ∷ []) (ws ++ vs)
-rows_append rs ss _ _ row vs no_rows_shown x = subst (RowsShow rs ss (row ∷ [])) (append-nil vs) (row_shown_and x no_rows_shown)
-rows_append rs ss _ _ row vs (row_shown_and {row = r} {rows = rows} {ws = ws} {vs = us} y sh) x =
-    subst (RowsShow rs ss (r ∷ (rows ++ row ∷ []))) (sym (append_assoc ws us vs)) (row_shown_and y (rows_append rs ss rows us row vs sh x))
-
-leads_nil : (m : Rel (List Row)) → Leads 0 m (then_all [] m)
+pub leads_nil : {A : Type 0} (m : Rel (List A)) → Leads 0 m (then_all [] m)
 leads_nil m _ _ (goes_on {f = f} k exact) = (f, k, omega arith)
 leads_nil m _ _ (stops {f = f} k) = (f, k, omega arith)
 leads_nil m _ _ (sticks {f = f} k) = (f, k, omega arith)
@@ -143,13 +136,6 @@ module _ (budget : ℕ) (b : Body) (xs : List Var) (source : Source) (count : �
 pub ruleset maps = (each_start, each_stop, each_more, each_end)
 
 -- ---- the sorts of a block's results
-
-results_sorts : (G : Sorts) (us : List Atom) (ss : List Sort) → Atoms_are G us ss → sorts_at us ≡ ss
-results_sorts G _ _ all_none = refl
-results_sorts G _ _ (all_more {x = u} {x' = s} {xs = us} {xs' = ss} x a) = ap (λ z. z ∷ sorts_at us) (by_sort s (elem_is G u s x) (rank_is G u s x)) ∙ ap (λ z. s ∷ z) (results_sorts G us ss a)
-  where
-    by_sort : (s : Sort) → elem_of u ≡ s.0 → rank_of u ≡ s.1 → sort_at u ≡ s
-    by_sort s e f = ap (λ z. (z, rank_of u)) e ∙ ap (λ z. (s.0, z)) f
 
 lets_sorts : (G : Sorts) (steps : List (List Var × Action)) (us : List Atom) (ss : List Sort) → Body_gives G (lets steps us) ss → sorts_at us ≡ ss
 unfolding lets
