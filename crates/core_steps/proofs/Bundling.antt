@@ -16,16 +16,12 @@ use Rattle.core_code.specs.Registers.{State, none_shown}
 use Rattle.core_code.specs.Answers.{Answer}
 use Rattle.core_code.specs.declared.stop.Stop.{Stop}
 use Rattle.core_code.specs.declared.stop.Stop.TheVariants.{Memory}
+use Rattle.core_steps.specs.Choosing.{Long, no_array, array_and}
 use Rattle.core_steps.specs.Rows.{CountTold, count_told, count_failed, no_count, Count_read, BundleTold, bundle_told, bundle_failed, no_bundle, Bundle_counted, Row_at, none_at, at_and, Grown, RowPushed, row_pushed, no_row, Row_pushed, Bundle_pushed}
 use Rattle.core_steps.proofs.Operands.{values_there}
 use Rattle.core_steps.proofs.Taking.{grown_same}
 
 -- ---- as many rows in each array
-
--- each array has so many rows
-pub data Long (n : ℕ) : Row → Type 0 where
-  no_array : Long n []
-  array_and : {c : Component} {cs : Row} → rows_in c ≡ Val n → Long n cs → Long n (c ∷ cs)
 
 long_of : (at : Place) (n m : ℕ) (cs : Row) → as_long false at n cs ≡ Val m → Long n cs × (m ≡ n)
 long_of at n m [] e = (no_array, let z : Val n ≡ Val m = e in cc)
@@ -105,12 +101,12 @@ rows_read at w cs rows e = by_size (size_of false at cs) refl
     by_size (Fail r) q = let z : Fail r ≡ Val rows = sym (ap (λ z. and_then z (λ n. Val (across n (of_width w cs)))) q) ∙ e in cc
     by_size Wrong q = let z : Wrong ≡ Val rows = sym (ap (λ z. and_then z (λ n. Val (across n (of_width w cs)))) q) ∙ e in cc
 
-long_width : (n w : ℕ) (cs : Row) → Long n cs → Long n (of_width w cs)
+pub long_width : (n w : ℕ) (cs : Row) → Long n cs → Long n (of_width w cs)
 long_width n zero cs h = no_array
 long_width n (suc w) cs h = h
 
 -- a bundle's arrays are arrays
-deep : (row bs : List Sort) → Bundled row bs → (ss : List Sort) × (bs ≡ lifted ss)
+pub deep : (row bs : List Sort) → Bundled row bs → (ss : List Sort) × (bs ≡ lifted ss)
 deep _ _ (bare {t}) = ((t, 1) ∷ [], refl)
 deep _ _ (full {s} {ss}) = (s ∷ ss, refl)
 

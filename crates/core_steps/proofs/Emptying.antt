@@ -19,10 +19,10 @@ use Rattle.fut_meaning.specs.Sames.{All_same, all_none, all_more}
 use Rattle.core_arrays.specs.Arenas.{Array, Arena, array, with_array}
 use Rattle.core_ir.specs.declared.block.Atom.{Atom}
 use Rattle.core_ir.specs.Arrays.{scalar_in, exact_in, told_sizes, all_told}
-use Rattle.core_ir.specs.Bundles.{Component, One, Many, Row, all_sizes, columns, bundle, weight_of, within_weight, stacked, glued, array_words}
+use Rattle.core_ir.specs.Bundles.{Component, One, Many, Row, all_sizes, columns, bundle, weight_of, within_weight, stacked, glued}
 use Rattle.core_ir.specs.Meaning.{Env, value_of, values_of, groups_of, scalar_at, collected}
 use Rattle.core_ir.specs.Plain.{group}
-use Rattle.core_ir.specs.Typed.{Sort, Sorts, lifted, Integer, integer, Integers, integer_and, Told, Bundled, bare, full, Atom_is, Atoms_are, Groups_are}
+use Rattle.core_ir.specs.Typed.{Sort, Sorts, lifted, Integer, integer, Integers, integer_and, Told, Bundled, bare, Atom_is, Atoms_are, Groups_are}
 use Rattle.core_code.specs.Registers.{State, elem_of, ShowsArray, AllShow, none_shown, shown_and, Stands}
 use Rattle.core_code.specs.Answers.{Answer, TurnsTold, turns_told, no_turns, Turns_read, Pushed, pushed}
 use Rattle.core_code.specs.Answers as answer

@@ -262,7 +262,7 @@ pub lifted_append : (ss : List Sort) (s : Sort) → lifted (ss ++ s ∷ []) ≡ 
 lifted_append [] s = refl
 lifted_append (t ∷ ss) s = ap (λ z. (t.0, suc t.1) ∷ z) (lifted_append ss s)
 
-words_append : (cs : Row) (c : Component) (ds : List ℕ) (ws : List Scalar) → c ≡ Many ds ws → array_words (cs ++ c ∷ []) ≡ array_words cs + extent ds
+pub words_append : (cs : Row) (c : Component) (ds : List ℕ) (ws : List Scalar) → c ≡ Many ds ws → array_words (cs ++ c ∷ []) ≡ array_words cs + extent ds
 words_append [] c ds ws e = ap (λ z. array_words (z ∷ [])) e ∙ (let q : extent ds + 0 ≡ 0 + extent ds = omega arith in q)
 words_append (One s ∷ cs) c ds ws e = words_append cs c ds ws e
 words_append (Many es vs ∷ cs) c ds ws e = let q = words_append cs c ds ws e in omega (arith, q)

@@ -2,7 +2,7 @@
 use Rattle.std.proofs.Common.{◌≡◌, ℕ, suc, ◌+◌, ◌-◌, ◌*◌, ◌<◌, ◌≤◌, ◌^◌, min, List, [], ◌∷◌, ◌++◌, map, length, take, drop, slice_get, Ok, Err, Bool, true, false, nat_le, get_or, OnOk, refl, sym, ap, ◌∙◌, subst, arith, add-one, append_assoc}
 use Rattle.std.proofs.Math.Seq.{drop-append_seam, take-append_seam, drop-cons}
 use Rattle.std.proofs.lemmas.Bool.{leb-true, leb-false}
-use Rattle.std.proofs.lemmas.List.{length-append, length-map, take_all}
+use Rattle.std.proofs.lemmas.List.{length-append, length-drop, length-map, take_all, get_or-drop, get_or_append_left}
 use Rattle.fut_scalar.specs.declared.place.Place.{Place}
 use Rattle.fut_scalar.specs.declared.report.FailKind.TheVariants as kind
 use Rattle.fut_scalar.specs.declared.scalar.ScalarType.{ScalarType}
@@ -116,6 +116,21 @@ pushed_more s0 s s' ws i d l e (pushed p) =
     ∙ ap (λ z. s0 ++ z) (sym (next_of i ws (get_or ws i d) (drop (suc i) ws) (drop-cons ws i d l)).taken) ∙ ap (λ z. s0 ++ take z ws) (sym (add-one i))
 
 pub ruleset word_pushes = (pushed_more)
+
+-- ---- the last words once more
+
+module _ (s0 : List ℕ) (from : ℕ) where
+  pub last_more : (s s' : List ℕ) (i d : ℕ) → from + i < length s0 → s ≡ s0 ++ take i (drop from s0) → Pushed (get_or s (from + i) d) s s' (Ok tt) → s' ≡ s0 ++ take (i + 1) (drop from s0)
+  last_more s s' i d l e (pushed p) =
+      let w : get_or s (from + i) d ≡ get_or (drop from s0) i d = ap (λ z. get_or z (from + i) d) e ∙ get_or_append_left s0 (take i (drop from s0)) d (from + i) l ∙ sym (get_or-drop from s0 i d) in
+      let m : i < length (drop from s0) = omega (arith, l, length-drop from s0) in
+      p ∙ ap (λ z. z ++ get_or s (from + i) d ∷ []) e ∙ append_assoc s0 (take i (drop from s0)) (get_or s (from + i) d ∷ []) ∙ ap (λ z. s0 ++ (take i (drop from s0) ++ z ∷ [])) w
+      ∙ ap (λ z. s0 ++ z) (sym (next_of i (drop from s0) (get_or (drop from s0) i d) (drop (suc i) (drop from s0)) (drop-cons (drop from s0) i d m)).taken) ∙ ap (λ z. s0 ++ take z (drop from s0)) (sym (add-one i))
+
+  pub last_end : (s : List ℕ) (i width : ℕ) → width ≤ i → width ≤ length s0 → from ≡ length s0 - width → s ≡ s0 ++ take i (drop from s0) → s ≡ s0 ++ drop (length s0 - width) s0
+  last_end s i width l m e f = f ∙ ap (λ z. s0 ++ z) (take_all i (drop from s0) (omega (arith, l, m, e, length-drop from s0))) ∙ ap (λ z. s0 ++ drop z s0) e
+
+pub ruleset last_pushes = (last_more, last_end)
 
 module _ (us : List Atom) (count mark : ℕ) (at : Place) (S S' : State) where
   pub glue_none : (r : Answer) → length us ≡ 0 → Bare_told count mark at S S' r → Glued_told us count mark at S S' r

@@ -1,14 +1,16 @@
 mod Counting
 pub mod Taking
-mod Bundling
+pub mod Bundling
 pub mod Operands
-mod Sizing
+pub mod Sizing
 mod Weighing
 mod Gathering
 mod Glueing
-mod Sourcing
+pub mod Sourcing
 mod Makes
 mod Indices
 mod Emptying
 pub mod Literals
 mod Repeating
+mod Choosing
+pub mod Places

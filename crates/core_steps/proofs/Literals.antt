@@ -4,14 +4,14 @@ use Rattle.std.proofs.Math.ListN.{get_or-map}
 use Rattle.std.proofs.Math.Seq.{drop-cons}
 use Rattle.std.proofs.lemmas.List.{append-nil, length-append, length-map}
 use Rattle.fut_scalar.specs.declared.place.Place.{Place}
-use Rattle.fut_meaning.specs.Outcomes.{Out, Val, Fail, Wrong, and_then}
+use Rattle.fut_meaning.specs.Outcomes.{Val, and_then}
 use Rattle.fut_meaning.specs.Sames.{all_none, all_more}
 use Rattle.core_arrays.specs.Arenas.{Array}
 use Rattle.core_ir.specs.declared.block.Atom.{Atom}
 use Rattle.core_ir.specs.Bundles.{Row, glued}
 use Rattle.core_ir.specs.Meaning.{Env, values_of, groups_of}
 use Rattle.core_ir.specs.Plain.{group}
-use Rattle.core_ir.specs.Typed.{Sort, Sorts, Bundled, Each_is, no_more, and_more, Atoms_are, Groups_are}
+use Rattle.core_ir.specs.Typed.{Sort, Sorts, Bundled, Each_is, and_more, Atoms_are, Groups_are}
 use Rattle.core_code.specs.Registers.{State, state, elem_of, rank_of, AllShow, Stands}
 use Rattle.core_code.specs.Answers.{Answer, ReadAll, read_all, Reads_all}
 use Rattle.core_code.specs.declared.stop.Stop.{Stop}

@@ -16,7 +16,7 @@ use Rattle.fut_meaning.specs.Outcomes.{Out, Val, and_then}
 use Rattle.core_arrays.specs.Arenas.{Array, Arena, array, with_array}
 use Rattle.core_ir.specs.declared.block.Atom.{Atom}
 use Rattle.core_ir.specs.Arrays.{replicated, sized_by}
-use Rattle.core_ir.specs.Bundles.{Component, Many, Row, sizes, cells, all_sizes, first_cells, same_sizes, all_same_sizes, all_have, sizes_or, weight_of, within_weight, columns, bundle, stacked, glued, array_words}
+use Rattle.core_ir.specs.Bundles.{Component, Many, Row, sizes, cells, all_sizes, first_cells, same_sizes, all_same_sizes, all_have, sizes_or, weight_of, within_weight, columns, bundle, stacked, glued}
 use Rattle.core_ir.specs.Meaning.{Env, value_of, values_of}
 use Rattle.core_ir.specs.Typed.{Sort, Bundled, bare, full}
 use Rattle.core_code.specs.Registers.{State, state, elem_of, rank_of, ShowsArray, Shows, AllShow, none_shown}
@@ -24,7 +24,7 @@ use Rattle.core_code.specs.Answers.{Answer, OnlyMemory, ReadAll, read_all, Reads
 use Rattle.core_code.specs.declared.stop.Stop.{Stop}
 use Rattle.core_code.specs.declared.stop.Stop.TheVariants.{Failed, Memory}
 use Rattle.core_code.proofs.Frames.{shows_on}
-use Rattle.core_steps.specs.Gluing.{sort_at, sorts_at, column_cells, CellsPut, cells_put, Cells_put, WordsTold, words_told, no_words, Sizes_read, Made, ColumnMade, column_made, no_column, ColumnsMade, columns_made, no_columns, Within_told, GluedTold, glued_told, glue_failed, no_glue, Bare_told}
+use Rattle.core_steps.specs.Gluing.{sort_at, sorts_at, column_cells, CellsPut, cells_put, Cells_put, WordsTold, words_told, no_words, Sizes_read, ColumnMade, column_made, no_column, ColumnsMade, columns_made, no_columns, Within_told, GluedTold, glued_told, glue_failed, no_glue, Bare_told}
 use Rattle.core_steps.specs.Repeating.{repeated, Cells_repeated, Column_repeated, Row_repeated, Repeated_told, Replicate_told}
 use Rattle.core_steps.specs.Rows.{CountTold, count_told, count_failed, no_count}
 use Rattle.core_steps.specs.Sources.{Size_asked}
@@ -150,7 +150,7 @@ same_as_itself : (ds : List ℕ) → same_sizes ds ds ≡ true
 same_as_itself [] = refl
 same_as_itself (d ∷ ds) = ap (λ z. z && same_sizes ds ds) (eq-eqb d d refl) ∙ same_as_itself ds
 
-all_same_as_themselves : (ds : List (List ℕ)) → all_same_sizes ds ds ≡ true
+pub all_same_as_themselves : (ds : List (List ℕ)) → all_same_sizes ds ds ≡ true
 all_same_as_themselves [] = refl
 all_same_as_themselves (d ∷ ds) = ap (λ z. z && all_same_sizes ds ds) (same_as_itself d) ∙ all_same_as_themselves ds
 

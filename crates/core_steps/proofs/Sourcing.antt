@@ -106,7 +106,7 @@ counts_get (suc n) k (suc i) l = let e : suc k + i ≡ k + suc i = omega arith i
 
 -- ---- how many there are
 
-together_one : (at : Place) (env : Env) (r : Bundle) → source_rows false at env (Of_rows (r ∷ [])) ≡ and_then (values_of env r.arrays) (rows_of false at r.width)
+pub together_one : (at : Place) (env : Env) (r : Bundle) → source_rows false at env (Of_rows (r ∷ [])) ≡ and_then (values_of env r.arrays) (rows_of false at r.width)
 together_one at env r = by_values (values_of env r.arrays)
   where
     by_values : (o : Out Row) → and_then (and_then o (λ cs. and_then (Val []) (λ css. Val (cs ∷ css)))) (rows_together false at (r.width ∷ [])) ≡ and_then o (rows_of false at r.width)

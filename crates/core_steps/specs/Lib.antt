@@ -5,3 +5,4 @@ pub mod Deeds
 pub mod Indexing
 pub mod Empties
 pub mod Repeating
+pub mod Choosing

@@ -2,7 +2,7 @@
 use Rattle.std.specs.Prelude.{◌≡◌, ℕ, zero, suc, List, ◌∷◌, [], ◌++◌, map, length, replicate, Result, false}
 use Rattle.fut_scalar.specs.declared.place.Place.{Place}
 use Rattle.fut_arithmetic.specs.Words.{scalar_of_word}
-use Rattle.fut_meaning.specs.Outcomes.{Out, and_then}
+use Rattle.fut_meaning.specs.Outcomes.{and_then}
 use Rattle.core_arrays.specs.Arenas.{Array, Arena}
 use Rattle.core_ir.specs.declared.block.Atom.{Atom}
 use Rattle.core_ir.specs.Arrays.{replicated}

@@ -1,5 +1,5 @@
 // Rows whose words lie on the stack, put into arrays.
-ghost use Rattle.std.specs.Prelude.{◌≡◌, ◌++◌, OnOk};
+ghost use Rattle.std.specs.Prelude.{◌≡◌, ◌-◌, ◌++◌, drop, length, OnOk};
 ghost use Rattle.core_code.specs.Answers.{OnlyMemory};
 ghost use Rattle.core_code.specs.Registers.{state};
 ghost use Rattle.fut_scalar.specs.declared.report.FailKind.TheVariants.{Size, TooLarge};
@@ -23,6 +23,23 @@ pub fn push_words(words: &[u64], stack: &mut Vec<u64>) -> Result<(), Stop>
 {
     for word in words {
         push(*word, stack)?;
+    }
+    Ok(())
+}
+
+/// Puts the last words on the stack once more.
+#[tactic(auto, using(crate::proofs::Glueing::last_pushes))]
+pub fn push_last(width: usize, stack: &mut Vec<u64>) -> Result<(), Stop>
+    ensures told { OnOk result (stack.new.items ≡ stack.old.items ++ drop (length stack.old.items - width) stack.old.items) }
+    ensures memory { OnlyMemory result }
+{
+    if width > stack.len() {
+        return Err(Stop::Memory);
+    }
+    let from = stack.len() - width;
+    for i in 0..width {
+        let word = stack[from + i];
+        push(word, stack)?;
     }
     Ok(())
 }

@@ -10,7 +10,7 @@ use core_ir::Atom;
 use fut_scalar::{List, NoMemory};
 
 /// Puts words behind others.
-fn put_words(words: &[u64], into: &mut List<u64>) -> Result<(), NoMemory>
+pub fn put_words(words: &[u64], into: &mut List<u64>) -> Result<(), NoMemory>
     ensures { OnOk result (into.new ≡ into.old ++ words.now) }
 {
     for word in words {

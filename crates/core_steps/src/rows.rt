@@ -42,7 +42,7 @@ pub fn rows_count(atoms: &[Atom], place: Place, table: &[u64], arrays: &Arrays) 
 
 /// The product of sizes.
 #[tactic(auto, using(crate::proofs::Taking::products))]
-fn extent(sizes: &[u64]) -> Option<u64>
+pub fn extent(sizes: &[u64]) -> Option<u64>
     ensures { IfSome result (λ count. count ≡ extent sizes.now) }
 {
     let mut count = 1u64;

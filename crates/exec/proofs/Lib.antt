@@ -6,3 +6,5 @@ mod FoldActs
 mod Maps
 mod MapActs
 mod Programs
+mod Tests
+mod Scans

@@ -11,7 +11,7 @@ use Rattle.core_ir.specs.Meaning.{Env, Results}
 use Rattle.core_ir.specs.Plain.{Action, Body, Source, lets, binding_of, body_of}
 use Rattle.core_ir.specs.Typed.{Sort, Sorts, sort_of, with_vars, Body_gives, give_gives, let_gives}
 use Rattle.core_ir.proofs.Layers.{body_of-parts}
-use Rattle.core_code.specs.Registers.{State, Kept}
+use Rattle.core_code.specs.Registers.{State, AllShow, Kept}
 use Rattle.core_code.specs.Answers.{Answer, Runs, ran, failed, no_memory}
 use Rattle.core_code.specs.Runs.{with_stack}
 use Rattle.core_code.specs.declared.stop.Stop.{Stop}
@@ -55,10 +55,10 @@ pub ruleset elements = (element_memory)
 -- ---- all rows
 
 -- the rows so far before those of the rest
-abbrev pub then_all : List Row → Rel (List Row) → Rel (List Row)
+abbrev pub then_all : {A : Type 0} → List A → Rel (List A) → Rel (List A)
 then_all outs m = Then m (λ ys. gives 0 (outs ++ ys))
 
-one_result : (outs : List Row) (y : Row) (f : ℕ) (m : Results) (rest : Rel (List Row)) → m (Val y) f → Leads f (then_all outs (Then m (λ y. Then rest (λ ys. gives 0 (y ∷ ys))))) (then_all (outs ++ y ∷ []) rest)
+pub one_result : {A : Type 0} (outs : List A) (y : A) (f : ℕ) (m : Rel A) (rest : Rel (List A)) → m (Val y) f → Leads f (then_all outs (Then m (λ y. Then rest (λ ys. gives 0 (y ∷ ys))))) (then_all (outs ++ y ∷ []) rest)
 one_result outs y f m rest h _ _ (goes_on {a = ys} {f = g} k exact) =
     (f + (g + 0) + 0, subst (λ z. then_all outs (Then m (λ y. Then rest (λ ys. gives 0 (y ∷ ys)))) (Val z) (f + (g + 0) + 0)) (sym (append_assoc outs (y ∷ []) ys)) (goes_on (goes_on h (goes_on k exact)) exact), omega arith)
 one_result outs y f m rest h _ _ (stops {r = r} {f = g} k) = (f + g, stops (goes_on h (stops k)), omega arith)
@@ -72,15 +72,15 @@ unfoldable pub Each_goes : ℕ → Body → List Var → Source → ℕ → ℕ 
 Each_goes budget b xs source count j S0 S =
     (G : Sorts) (env : Env) (n : ℕ) (ss : List Sort) (rows : List Row) → Mapping G env xs source b ss n rows S0 → length rows ≡ count → Each_so (each_of (applied budget b xs env) rows) (each_of (applied budget b xs env) (drop j rows)) ss j n S0 S
 
-mapping_on : (G : Sorts) (env : Env) (xs : List Var) (source : Source) (b : Body) (ss : List Sort) (n : ℕ) (rows : List Row) (S0 S : State) (c : ℕ) → Kept n S0 S c → Mapping G env xs source b ss n rows S0 → Mapping G env xs source b ss n rows S
+pub mapping_on : (G : Sorts) (env : Env) (xs : List Var) (source : Source) (b : Body) (ss : List Sort) (n : ℕ) (rows : List Row) (S0 S : State) (c : ℕ) → Kept n S0 S c → Mapping G env xs source b ss n rows S0 → Mapping G env xs source b ss n rows S
 mapping_on G env xs source b ss n rows S0 S c k on =
     record { mid = on.mid; last = on.last; stands = stands_kept G env n S0 S c on.stands k; rises = on.rises; gives = on.gives; at = on.at; read = on.read; typed = on.typed; numbered = on.numbered }
 
-rows_on : (rs rs' : List Array) (ss : List Sort) (rows : List Row) (ws : List ℕ) → ((i : ℕ) (a : Array) → slice_get rs i ≡ Some a → slice_get rs' i ≡ Some a) → RowsShow rs ss rows ws → RowsShow rs' ss rows ws
+pub rows_on : (rs rs' : List Array) (ss : List Sort) (rows : List Row) (ws : List ℕ) → ((i : ℕ) (a : Array) → slice_get rs i ≡ Some a → slice_get rs' i ≡ Some a) → RowsShow rs ss rows ws → RowsShow rs' ss rows ws
 rows_on rs rs' ss _ _ g no_rows_shown = no_rows_shown
 rows_on rs rs' ss _ _ g (row_shown_and {row = row} {rows = rows} {ws = ws} {vs = vs} x sh) = row_shown_and (all_show_on rs rs' ss row ws g x) (rows_on rs rs' ss rows vs g sh)
 
-leads_nil : (m : Rel (List Row)) → Leads 0 m (then_all [] m)
+pub leads_nil : {A : Type 0} (m : Rel (List A)) → Leads 0 m (then_all [] m)
 leads_nil m _ _ (goes_on {f = f} k exact) = (f, k, omega arith)
 leads_nil m _ _ (stops {f = f} k) = (f, k, omega arith)
 leads_nil m _ _ (sticks {f = f} k) = (f, k, omega arith)

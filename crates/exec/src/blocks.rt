@@ -1,11 +1,13 @@
 // Runs of blocks, steps and loops.
-ghost use Rattle.std.specs.Prelude.{◌≡◌, map};
-ghost use Rattle.core_ir.specs.Plain.{For_in, Map, Of_two, Reduce, action_of, binding_of, body_of, bundle_form, group, source_form};
+ghost use Rattle.std.specs.Prelude.{◌≡◌, ◌∷◌, [], map};
+ghost use Rattle.core_ir.specs.Plain.{Filter, For_in, Map, Of_rows, Of_two, Reduce, Scan, action_of, binding_of, body_of, bundle_form, group, source_form};
 ghost use Rattle.core_code.specs.Registers.{state};
 ghost use Rattle.core_code.specs.Runs.{Act_runs, Body_runs, For_runs, Step_runs, Test_runs, Turn_runs, While_runs};
 ghost use Rattle.core_ir.specs.declared.block.Block.{out-Block};
 ghost use Rattle.exec.specs.Folds.{Fold_runs, Row_turn_runs, Under_runs};
 ghost use Rattle.exec.specs.Maps.{Each_runs, Element_runs};
+ghost use Rattle.exec.specs.Scans.{Prefixes_run};
+ghost use Rattle.exec.specs.Tests.{Tests_run};
 
 use core_arrays::Arrays;
 use core_code::{
@@ -13,7 +15,8 @@ use core_code::{
 };
 use core_ir::{Atom, Block, Op, Over, Rows, Step, Var};
 use core_steps::{
-    bundle_count, glue, glue_none, push_bundle, push_source, run_making, run_view, source_count,
+    bundle_count, glue, glue_none, keep_none, keep_passing, push_bundle, push_last, push_source,
+    run_making, run_view, source_count,
 };
 use fut_scalar::{FailKind, IntType, Place, Report, ScalarType};
 
@@ -131,6 +134,9 @@ fn run_apply(
         } => run_map(
             body, params, *over, sizes, place, turns, table, stack, arrays,
         ),
+        Op::Filter { rows, params, test } => {
+            run_filter(test, params, *rows, place, turns, table, stack, arrays)
+        }
         _ => run_folding(op, place, turns, table, stack, arrays),
     }
 }
@@ -174,8 +180,80 @@ fn run_folding(
             stack,
             arrays,
         ),
+        Op::Scan {
+            neutral,
+            rows,
+            operator,
+        } => run_scan(
+            operator.body,
+            operator.left,
+            operator.right,
+            neutral,
+            *rows,
+            place,
+            turns,
+            table,
+            stack,
+            arrays,
+        ),
         _ => Err(Stop::Memory),
     }
+}
+
+/// Reduces each prefix of the rows of a bundle, and puts arrays of all results on the stack.
+#[tactic(auto, using(crate::proofs::Scans::scan_rules))]
+#[cycle(blocks)]
+fn run_scan(
+    body: &Block,
+    params: &[Var],
+    row: &[Var],
+    neutral: &[Atom],
+    rows: Rows,
+    place: Place,
+    turns: u64,
+    table: &mut [u64],
+    stack: &mut Vec<u64>,
+    arrays: &mut Arrays,
+) -> Result<(), Stop>
+    ensures { Act_runs turns (Scan place neutral.now (bundle_form rows.entry) (Of_two params.now row.now (body_of body.now))) (state arrays.old table.old stack.old.items) (state arrays.new table.new stack.new.items) result }
+{
+    let mark = stack.len();
+    let count = bundle_count(rows, place, table, arrays)?;
+    if count == 0 {
+        return keep_none(rows, place, table, stack, arrays);
+    }
+    push_all(neutral, table, stack)?;
+    run_row_turn(
+        body, params, row, rows, 0, mark, turns, table, stack, arrays,
+    )?;
+    run_prefixes(body, params, row, rows, count, turns, table, stack, arrays)?;
+    glue(results_of(body), count, mark, place, stack, arrays)
+}
+
+/// Takes a turn for each row of a bundle behind the first, each from the words that the one before left on the stack.
+#[tactic(auto, using(crate::proofs::Scans::prefixes))]
+#[cycle(blocks)]
+fn run_prefixes(
+    body: &Block,
+    params: &[Var],
+    row: &[Var],
+    rows: Rows,
+    count: u64,
+    turns: u64,
+    table: &mut [u64],
+    stack: &mut Vec<u64>,
+    arrays: &mut Arrays,
+) -> Result<(), Stop>
+    ensures { Prefixes_run turns (body_of body.now) params.now row.now (bundle_form rows.entry) count (state arrays.old table.old stack.old.items) (state arrays.new table.new stack.new.items) result }
+{
+    for i in 1..count {
+        let mark = stack.len();
+        push_last(params.len(), stack)?;
+        run_row_turn(
+            body, params, row, rows, i, mark, turns, table, stack, arrays,
+        )?;
+    }
+    Ok(())
 }
 
 /// Takes a turn for each row of a bundle, from first words of the parameters on. A reduction in order is the same.
@@ -274,6 +352,68 @@ fn run_element(
 {
     let mark = stack.len();
     push_source(over, i, table, stack, arrays)?;
+    run_under(body, params, mark, turns, table, stack, arrays)
+}
+
+/// Applies a test to each row of a bundle, and puts arrays of the rows that pass on the stack.
+#[tactic(auto, using(crate::proofs::Acts::act_rules))]
+#[cycle(blocks)]
+fn run_filter(
+    test: &Block,
+    params: &[Var],
+    rows: Rows,
+    place: Place,
+    turns: u64,
+    table: &mut [u64],
+    stack: &mut Vec<u64>,
+    arrays: &mut Arrays,
+) -> Result<(), Stop>
+    ensures { Act_runs turns (Filter place (bundle_form rows.entry) params.now (body_of test.now)) (state arrays.old table.old stack.old.items) (state arrays.new table.new stack.new.items) result }
+{
+    let mark = stack.len();
+    let count = bundle_count(rows, place, table, arrays)?;
+    run_tests(test, params, rows, count, turns, table, stack, arrays)?;
+    keep_passing(rows.arrays, mark, table, stack, arrays)
+}
+
+/// Applies a test to each row of a bundle, and puts a word for each outcome on the stack.
+#[tactic(auto, using(crate::proofs::Tests::tests))]
+#[cycle(blocks)]
+fn run_tests(
+    test: &Block,
+    params: &[Var],
+    rows: Rows,
+    count: u64,
+    turns: u64,
+    table: &mut [u64],
+    stack: &mut Vec<u64>,
+    arrays: &mut Arrays,
+) -> Result<(), Stop>
+    ensures { Tests_run turns (body_of test.now) params.now (bundle_form rows.entry) count (state arrays.old table.old stack.old.items) (state arrays.new table.new stack.new.items) result }
+{
+    for i in 0..count {
+        run_row(test, params, rows, i, turns, table, stack, arrays)?;
+    }
+    Ok(())
+}
+
+/// Applies a block to one row of a bundle.
+#[tactic(auto, using(crate::proofs::Tests::row_elements))]
+#[cycle(blocks)]
+fn run_row(
+    body: &Block,
+    params: &[Var],
+    rows: Rows,
+    i: u64,
+    turns: u64,
+    table: &mut [u64],
+    stack: &mut Vec<u64>,
+    arrays: &mut Arrays,
+) -> Result<(), Stop>
+    ensures { Element_runs turns (body_of body.now) params.now (Of_rows (bundle_form rows.entry ∷ [])) i (state arrays.old table.old stack.old.items) (state arrays.new table.new stack.new.items) result }
+{
+    let mark = stack.len();
+    push_bundle(rows, i, table, stack, arrays)?;
     run_under(body, params, mark, turns, table, stack, arrays)
 }
 

@@ -9,7 +9,9 @@ use Rattle.exec.proofs.Folds.{row_turn_done, under_done}
 use Rattle.exec.proofs.MapActs.{map_failed, map_glued, map_none, map_stopped, op_map}
 use Rattle.exec.proofs.Maps.{element_done}
 use Rattle.exec.proofs.Loops.{turn_done, test_run_stop, test_over, while_body_stop, while_more}
+use Rattle.exec.proofs.Scans.{op_scan, prefixes_more, prefixes_stop, scan_done, scan_failed, scan_first, scan_none, scan_stopped}
 use Rattle.exec.proofs.Steps.{step_done, step_operated, block_end}
+use Rattle.exec.proofs.Tests.{filter_failed, filter_stopped, filter_done, op_filter, row_element}
 use Rattle.exec.proofs.blocks.+blocks.Goals as goal
 
 pub run_block-returns : goal.run_block-returns
@@ -167,3 +169,84 @@ run_map-returns t c =
     map_glued c.args.turns c.args.place (source_form c.args.over) (map group c.args.sizes.now) c.args.params.now c.args.body.now (state c.args.arrays.now c.args.table.now c.args.stack.now.items) c.in_ok-count.count c.in_ok-count.ensures c.len-mark.result
     (state c.run_each.new.arrays c.run_each.new.table c.run_each.new.stack.items) (state c.glue.new.arrays c.run_each.new.table c.glue.new.stack.items) c.glue.result
     (λ e. absurd (omega (arith, e, c.if-count-eq0.false))) (omega (arith, c.len-mark.ensures, c.args.stack.now.ok.0)) c.in_ok-run_each.ensures c.results_of.result.now c.results_of.ensures (c.glue.ensures c.run_each.new.table) refl
+
+pub run_apply-returns-in-Filter : goal.run_apply-returns-in-Filter
+run_apply-returns-in-Filter t c =
+    op_filter c.args.turns c.args.op.now c.args.place c.in-Filter.rows c.in-Filter.params c.in-Filter.test (state c.args.arrays.now c.args.table.now c.args.stack.now.items) (state c.run_filter.new.arrays c.run_filter.new.table c.run_filter.new.stack.items) c.run_filter.result
+    c.in-Filter.is c.run_filter.ensures
+
+pub run_filter-returns-in_err-count : goal.run_filter-returns-in_err-count
+run_filter-returns-in_err-count t c =
+    let p = err_from_is_err_and c.from_residual.result c.from_residual.ensures.1 in
+    rw (p.1, p.2)
+    (filter_failed c.args.turns c.args.place (bundle_form c.args.rows) c.args.params.now (body_of c.args.test.now) (state c.args.arrays.now c.args.table.now c.args.stack.now.items)
+    (state c.args.arrays.now c.args.table.now c.args.stack.now.items) c.in_err-count.field-0.0 c.in_err-count.ensures)
+
+pub run_filter-returns-in_err-run_tests : goal.run_filter-returns-in_err-run_tests
+run_filter-returns-in_err-run_tests t c =
+    let p = err_from_is_err_and c.from_residual-in_err-run_tests.result c.from_residual-in_err-run_tests.ensures.1 in
+    rw (p.1, p.2)
+    (filter_stopped c.args.turns c.args.place (bundle_form c.args.rows) c.args.params.now (body_of c.args.test.now) (state c.args.arrays.now c.args.table.now c.args.stack.now.items) c.in_ok-count.count c.in_ok-count.ensures
+    (state c.run_tests.new.arrays c.run_tests.new.table c.run_tests.new.stack.items) c.in_err-run_tests.field-0.0 c.in_err-run_tests.ensures)
+
+pub run_filter-returns : goal.run_filter-returns
+run_filter-returns t c =
+    filter_done c.args.turns c.args.place (bundle_form c.args.rows) c.args.params.now (body_of c.args.test.now) (state c.args.arrays.now c.args.table.now c.args.stack.now.items) c.in_ok-count.count c.in_ok-count.ensures c.len-mark.result
+    (state c.run_tests.new.arrays c.run_tests.new.table c.run_tests.new.stack.items) (state c.keep_passing.new.arrays c.run_tests.new.table c.keep_passing.new.stack.items) c.keep_passing.result
+    (omega (arith, c.len-mark.ensures, c.args.stack.now.ok.0)) c.in_ok-run_tests.ensures c.keep_passing.ensures.told refl
+
+pub run_row-returns : goal.run_row-returns
+run_row-returns t c =
+    row_element c.args.turns (body_of c.args.body.now) c.args.params.now (bundle_form c.args.rows) c.args.i c.len-mark.result (state c.args.arrays.now c.args.table.now c.args.stack.now.items) (state c.push_bundle.new.arrays c.args.table.now c.push_bundle.new.stack.items)
+    (state c.run_under.new.arrays c.run_under.new.table c.run_under.new.stack.items) c.run_under.result (omega (arith, c.len-mark.ensures, c.args.stack.now.ok.0)) refl c.in_ok-push_bundle.ensures.told c.run_under.ensures
+
+pub run_folding-returns-in-Scan : goal.run_folding-returns-in-Scan
+run_folding-returns-in-Scan t c =
+    op_scan c.args.turns c.args.op.now c.args.place c.in-Scan.neutral c.in-Scan.rows c.in-Scan.operator (state c.args.arrays.now c.args.table.now c.args.stack.now.items) (state c.run_scan.new.arrays c.run_scan.new.table c.run_scan.new.stack.items) c.run_scan.result
+    c.in-Scan.is c.run_scan.ensures
+
+pub run_scan-returns-in_err-count : goal.run_scan-returns-in_err-count
+run_scan-returns-in_err-count t c =
+    let p = err_from_is_err_and c.from_residual.result c.from_residual.ensures.1 in
+    rw (p.1, p.2)
+    (scan_failed c.args.turns c.args.place c.args.neutral.now (bundle_form c.args.rows) c.args.params.now c.args.row.now c.args.body.now (state c.args.arrays.now c.args.table.now c.args.stack.now.items)
+    (state c.args.arrays.now c.args.table.now c.args.stack.now.items) c.in_err-count.field-0.0 c.in_err-count.ensures)
+
+pub run_scan-returns-then-count-eq0 : goal.run_scan-returns-then-count-eq0
+run_scan-returns-then-count-eq0 t c =
+    scan_none c.args.turns c.args.place c.args.neutral.now (bundle_form c.args.rows) c.args.params.now c.args.row.now c.args.body.now (state c.args.arrays.now c.args.table.now c.args.stack.now.items) c.in_ok-count.count c.in_ok-count.ensures
+    (state c.keep_none.new.arrays c.args.table.now c.keep_none.new.stack.items) c.keep_none.result (omega (arith, c.if-count-eq0.true)) c.keep_none.ensures refl
+
+pub run_scan-returns-in_err-run_row_turn : goal.run_scan-returns-in_err-run_row_turn
+run_scan-returns-in_err-run_row_turn t c =
+    let p = err_from_is_err_and c.from_residual-in_err-run_row_turn.result c.from_residual-in_err-run_row_turn.ensures.1 in
+    rw (p.1, p.2)
+    (scan_first c.args.turns c.args.place c.args.neutral.now (bundle_form c.args.rows) c.args.params.now c.args.row.now c.args.body.now (state c.args.arrays.now c.args.table.now c.args.stack.now.items) c.in_ok-count.count c.in_ok-count.ensures c.push_all.new.stack.items c.len-mark.result (omega (arith, c.len-mark.ensures, c.args.stack.now.ok.0)) c.in_ok-push_all.ensures.told (λ e. absurd (omega (arith, e, c.if-count-eq0.false)))
+    (state c.run_row_turn.new.arrays c.run_row_turn.new.table c.run_row_turn.new.stack.items) c.in_err-run_row_turn.field-0.0 c.in_err-run_row_turn.ensures)
+
+pub run_scan-returns-in_err-run_prefixes : goal.run_scan-returns-in_err-run_prefixes
+run_scan-returns-in_err-run_prefixes t c =
+    let p = err_from_is_err_and c.from_residual-in_err-run_prefixes.result c.from_residual-in_err-run_prefixes.ensures.1 in
+    rw (p.1, p.2)
+    (scan_stopped c.args.turns c.args.place c.args.neutral.now (bundle_form c.args.rows) c.args.params.now c.args.row.now c.args.body.now (state c.args.arrays.now c.args.table.now c.args.stack.now.items) c.in_ok-count.count c.in_ok-count.ensures c.push_all.new.stack.items c.len-mark.result (omega (arith, c.len-mark.ensures, c.args.stack.now.ok.0)) c.in_ok-push_all.ensures.told (λ e. absurd (omega (arith, e, c.if-count-eq0.false)))
+    (state c.run_row_turn.new.arrays c.run_row_turn.new.table c.run_row_turn.new.stack.items) c.in_ok-run_row_turn.ensures
+    (state c.run_prefixes.new.arrays c.run_prefixes.new.table c.run_prefixes.new.stack.items) c.in_err-run_prefixes.field-0.0 c.in_err-run_prefixes.ensures)
+
+pub run_scan-returns : goal.run_scan-returns
+run_scan-returns t c =
+    scan_done c.args.turns c.args.place c.args.neutral.now (bundle_form c.args.rows) c.args.params.now c.args.row.now c.args.body.now (state c.args.arrays.now c.args.table.now c.args.stack.now.items) c.in_ok-count.count c.in_ok-count.ensures c.push_all.new.stack.items c.len-mark.result (omega (arith, c.len-mark.ensures, c.args.stack.now.ok.0)) c.in_ok-push_all.ensures.told (λ e. absurd (omega (arith, e, c.if-count-eq0.false)))
+    (state c.run_row_turn.new.arrays c.run_row_turn.new.table c.run_row_turn.new.stack.items) c.in_ok-run_row_turn.ensures
+    (state c.run_prefixes.new.arrays c.run_prefixes.new.table c.run_prefixes.new.stack.items) (state c.glue.new.arrays c.run_prefixes.new.table c.glue.new.stack.items) c.glue.result
+    c.results_of.result.now c.in_ok-run_prefixes.ensures c.results_of.ensures (c.glue.ensures c.run_prefixes.new.table) refl
+
+pub run_prefixes-returns-in_err-run_row_turn : goal.run_prefixes-returns-in_err-run_row_turn
+run_prefixes-returns-in_err-run_row_turn t c =
+    let p = err_from_is_err_and c.from_residual-in_err-run_row_turn.result c.from_residual-in_err-run_row_turn.ensures.1 in
+    rw (p.1, p.2)
+    (prefixes_stop c.args.turns (body_of c.args.body.now) c.args.params.now c.args.row.now (bundle_form c.args.rows) c.args.count c.loop-i.i (state c.args.arrays.now c.args.table.now c.args.stack.now.items) (state c.loop-i.arrays c.loop-i.table c.loop-i.stack.items) c.loop-i.invariant
+    _ c.len-mark.result c.push_last.new.stack.items (state c.run_row_turn.new.arrays c.run_row_turn.new.table c.run_row_turn.new.stack.items) (omega (arith, c.loop-i-test.true)) refl c.in_ok-push_last.ensures.told (omega (arith, c.len-mark.ensures, c.loop-i.stack.ok.0)) c.in_err-run_row_turn.field-0.0 c.in_err-run_row_turn.ensures)
+
+pub run_prefixes-loop-i-preserved : goal.run_prefixes-loop-i-preserved
+run_prefixes-loop-i-preserved t c =
+    prefixes_more c.args.turns (body_of c.args.body.now) c.args.params.now c.args.row.now (bundle_form c.args.rows) c.args.count c.loop-i.i (state c.args.arrays.now c.args.table.now c.args.stack.now.items) (state c.loop-i.arrays c.loop-i.table c.loop-i.stack.items) c.loop-i.invariant
+    _ c.len-mark.result c.push_last.new.stack.items (state c.run_row_turn.new.arrays c.run_row_turn.new.table c.run_row_turn.new.stack.items) (omega (arith, c.loop-i-test.true)) refl c.in_ok-push_last.ensures.told (omega (arith, c.len-mark.ensures, c.loop-i.stack.ok.0)) c.in_ok-run_row_turn.ensures

@@ -7,7 +7,9 @@ use Rattle.core_code.specs.Registers.{state}
 use Rattle.exec.proofs.Folds.{Fold_goes}
 use Rattle.exec.proofs.Maps.{Each_goes}
 use Rattle.exec.proofs.Loops.{For_goes, While_goes}
+use Rattle.exec.proofs.Scans.{Prefixes_go}
 use Rattle.exec.proofs.Steps.{Block_goes}
+use Rattle.exec.proofs.Tests.{Tests_go}
 use Rattle.exec.proofs.blocks.+blocks.Given as goal
 
 abbrev pub decreases-run_block : goal.decreases-run_block
@@ -30,6 +32,21 @@ decreases-run_fold l = 8 * size-Block l.body.now + 6
 
 abbrev pub decreases-run_map : goal.decreases-run_map
 decreases-run_map l = 8 * size-Block l.body.now + 6
+
+abbrev pub decreases-run_filter : goal.decreases-run_filter
+decreases-run_filter l = 8 * size-Block l.test.now + 6
+
+abbrev pub decreases-run_tests : goal.decreases-run_tests
+decreases-run_tests l = 8 * size-Block l.test.now + 5
+
+abbrev pub decreases-run_row : goal.decreases-run_row
+decreases-run_row l = 8 * size-Block l.body.now + 4
+
+abbrev pub decreases-run_scan : goal.decreases-run_scan
+decreases-run_scan l = 8 * size-Block l.body.now + 6
+
+abbrev pub decreases-run_prefixes : goal.decreases-run_prefixes
+decreases-run_prefixes l = 8 * size-Block l.body.now + 5
 
 abbrev pub decreases-run_for : goal.decreases-run_for
 decreases-run_for l = 8 * size-Block l.body.now + 4
@@ -72,3 +89,9 @@ invariant-run_rows-loop-i l = Fold_goes l.turns (body_of l.body) l.params l.row 
 
 abbrev pub invariant-run_each-loop-i : goal.invariant-run_each-loop-i
 invariant-run_each-loop-i l = Each_goes l.turns (body_of l.body) l.params (source_form l.over) l.count l.i (state l.initial.arrays l.initial.table l.initial.stack.items) (state l.arrays l.table l.stack.items)
+
+abbrev pub invariant-run_tests-loop-i : goal.invariant-run_tests-loop-i
+invariant-run_tests-loop-i l = Tests_go l.turns (body_of l.test) l.params (bundle_form l.rows) l.count l.i (state l.initial.arrays l.initial.table l.initial.stack.items) (state l.arrays l.table l.stack.items)
+
+abbrev pub invariant-run_prefixes-loop-i : goal.invariant-run_prefixes-loop-i
+invariant-run_prefixes-loop-i l = Prefixes_go l.turns (body_of l.body) l.params l.row (bundle_form l.rows) l.count l.i (state l.initial.arrays l.initial.table l.initial.stack.items) (state l.arrays l.table l.stack.items)
