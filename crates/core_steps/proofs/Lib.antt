@@ -14,3 +14,4 @@ pub mod Literals
 mod Repeating
 mod Choosing
 pub mod Places
+mod Besides

@@ -15,6 +15,7 @@ mod making;
 mod rows;
 mod selected;
 mod sources;
+mod together;
 mod views;
 
 pub use arrange::{glue, push_last};
