@@ -50,11 +50,10 @@ pub record Source_bundles (G : Sorts) (env : Env) (rs : List Bundle) (row : List
   pub are : Bundles_are G env rs sorts values
   pub whole : row ≡ joined sorts
 
-source_bundles : (G : Sorts) (env : Env) (n : ℕ) (held : List Array) (t : List ℕ) (rs : List Bundle) (row : List Sort) → Stands G env n held t → Source_gives G (Of_rows rs) row → Source_bundles G env rs row
+pub source_bundles : (G : Sorts) (env : Env) (n : ℕ) (held : List Array) (t : List ℕ) (rs : List Bundle) (row : List Sort) → Stands G env n held t → Source_gives G (Of_rows rs) row → Source_bundles G env rs row
 source_bundles G env n held t rs row st (rows_give g k) = by_groups rs row g k
   where
     by_groups : (rs : List Bundle) (row : List Sort) {bss : List (List Sort)} → Groups_are G (map (λ r. r.arrays) rs) bss → Together (map (λ r. r.width) rs) bss row → Source_bundles G env rs row
-    by_groups [] row g k = cc
     by_groups (r ∷ []) row (all_more a all_none) (one_bundle {bs = bs} b w) =
         let v = values_there G env n held t r.arrays bs st a in
         record { sorts = row ∷ []; values = v.0 ∷ []; are = bundles_and (record { sorts = bs; bundled = b; wide = w; are = a }) v.1 no_bundles; whole = refl }
@@ -319,7 +318,7 @@ pub ruleset counting = (count_memory, count_first, count_more, count_end)
 -- ---- a row of each
 
 -- rows of bundles by one number
-data Rows_at (at : Place) (i : ℕ) : List Bundle → List Row → List Row → Type 0 where
+pub data Rows_at (at : Place) (i : ℕ) : List Bundle → List Row → List Row → Type 0 where
   no_rows_at : Rows_at at i [] [] []
   rows_at_and : {r : Bundle} {rs : List Bundle} {cs : Row} {css : List Row} {p : Row} {ps : List Row} (rows : List Row) → rows_of false at r.width cs ≡ Val rows → slice_get rows i ≡ Some p → Rows_at at i rs css ps → Rows_at at i (r ∷ rs) (cs ∷ css) (p ∷ ps)
 
