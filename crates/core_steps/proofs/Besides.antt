@@ -54,6 +54,7 @@ pub source_bundles : (G : Sorts) (env : Env) (n : ℕ) (held : List Array) (t : 
 source_bundles G env n held t rs row st (rows_give g k) = by_groups rs row g k
   where
     by_groups : (rs : List Bundle) (row : List Sort) {bss : List (List Sort)} → Groups_are G (map (λ r. r.arrays) rs) bss → Together (map (λ r. r.width) rs) bss row → Source_bundles G env rs row
+    by_groups [] row g k = elim k [ ]
     by_groups (r ∷ []) row (all_more a all_none) (one_bundle {bs = bs} b w) =
         let v = values_there G env n held t r.arrays bs st a in
         record { sorts = row ∷ []; values = v.0 ∷ []; are = bundles_and (record { sorts = bs; bundled = b; wide = w; are = a }) v.1 no_bundles; whole = refl }
