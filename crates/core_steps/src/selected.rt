@@ -133,8 +133,9 @@ pub fn part_passing(
         return Err(Stop::Memory);
     }
     let alloc = arrays.alloc();
-    let passed = passing_rows(alloc, true, &stack[mark..])?;
-    let others = passing_rows(alloc, false, &stack[mark..])?;
+    let tests = &stack[mark..];
+    let passed = passing_rows(alloc, true, tests)?;
+    let others = passing_rows(alloc, false, tests)?;
     stack.truncate(mark);
     choose_rows(atoms, passed.as_slice(), table, stack, arrays)?;
     choose_rows(atoms, others.as_slice(), table, stack, arrays)
