@@ -1,10 +1,9 @@
 -- Bundles whose rows stand side by side.
-use Rattle.std.proofs.Common.{◌≡◌, ℕ, zero, suc, ◌+◌, ◌<◌, ◌≤◌, List, [], ◌∷◌, ◌++◌, map, length, get_or, take, drop, slice_get, Some, Bor, Ok, Err, Result, Option, Bool, true, false, nat_eq, refl, sym, ap, ◌∙◌, subst, arith, add-one, append_assoc}
+use Rattle.std.proofs.Common.{◌≡◌, ℕ, zero, suc, ◌+◌, ◌<◌, ◌≤◌, List, [], ◌∷◌, ◌++◌, map, length, get_or, take, slice_get, Some, Bor, Ok, Err, Option, Bool, true, false, nat_eq, refl, sym, ap, ◌∙◌, subst, arith, add-one, append_assoc}
 use Rattle.std.specs.Prelude.{◌&&◌, ◌==◌}
 use Rattle.std.proofs.Math.ListN.{get_or-map}
-use Rattle.std.proofs.Math.Seq.{drop-cons}
 use Rattle.std.proofs.lemmas.Bool.{eqb-true, eqb-false, eq-eqb, ne_eqb}
-use Rattle.std.proofs.lemmas.List.{append-nil, length-append, length-map, take_all}
+use Rattle.std.proofs.lemmas.List.{append-nil, length-map, take_all}
 use Rattle.fut_scalar.specs.declared.place.Place.{Place}
 use Rattle.fut_scalar.specs.declared.report.FailKind.TheVariants as kind
 use Rattle.fut_scalar.specs.declared.report.Report.{Report}
@@ -19,9 +18,8 @@ use Rattle.core_ir.specs.Bundles.{Row, rows_of}
 use Rattle.core_ir.specs.Lists.{paired}
 use Rattle.core_ir.specs.Meaning.{Env, values_of, groups_of, source_rows}
 use Rattle.core_ir.specs.Plain.{Bundle, Of_rows, bundle_form}
-use Rattle.core_ir.specs.Typed.{Sort, Sorts, Bundled, Together, one_bundle, and_bundles, Groups_are, Rows_are, Source_gives, rows_give}
+use Rattle.core_ir.specs.Typed.{Sort, Sorts, Together, one_bundle, and_bundles, Groups_are, Rows_are, Source_gives, rows_give}
 use Rattle.core_code.specs.Registers.{State, AllShow, none_shown, Stands}
-use Rattle.core_code.specs.Answers.{Answer}
 use Rattle.core_code.specs.declared.stop.Stop.{Stop}
 use Rattle.core_code.specs.declared.stop.Stop.TheVariants.{Failed, Memory}
 use Rattle.core_code.proofs.Frames.{all_show_on, stands_on}
@@ -29,7 +27,7 @@ use Rattle.core_code.proofs.Reading.{show_append}
 use Rattle.core_steps.specs.Rows.{BundleTold, bundle_told, bundle_failed, no_bundle, Bundle_counted, Grown, RowPushed, row_pushed, no_row, Bundle_pushed}
 use Rattle.core_steps.specs.Sources.{SourceTold, source_told, source_failed, no_source, Source_counted, Source_pushed}
 use Rattle.core_steps.proofs.Gathering.{take_get}
-use Rattle.core_steps.proofs.Operands.{values_there, next_of}
+use Rattle.core_steps.proofs.Operands.{values_there}
 use Rattle.core_steps.proofs.Taking.{grown_same, grown_on}
 
 -- ---- the bundles of a source

@@ -1,19 +1,17 @@
 -- The rows that pass a test, and behind them those that do not.
-use Rattle.std.proofs.Common.{◌≡◌, ℕ, ◌+◌, ◌-◌, ◌≤◌, List, [], ◌∷◌, ◌++◌, length, take, drop, slice_get, not, Ok, Err, true, false, refl, sym, ap, ◌∙◌, subst, arith, append_assoc}
+use Rattle.std.proofs.Common.{◌≡◌, ℕ, ◌+◌, ◌-◌, List, ◌++◌, length, take, drop, not, Ok, Err, true, false, refl, sym, ap, ◌∙◌, subst, arith, append_assoc}
 use Rattle.std.specs.Prelude.{◌==◌}
 use Rattle.std.proofs.Math.Seq.{drop-append_seam, take-append_seam}
 use Rattle.std.proofs.lemmas.List.{length-append, length-map, take_all}
 use Rattle.core_ir.specs.declared.block.Atom.{Atom}
-use Rattle.core_ir.specs.Bundles.{Row}
-use Rattle.core_ir.specs.Meaning.{Env, values_of}
-use Rattle.core_ir.specs.Typed.{Sort, Sorts, lifted, Atoms_are}
+use Rattle.core_ir.specs.Typed.{lifted}
 use Rattle.core_code.specs.Registers.{State, state, Stands}
 use Rattle.core_code.specs.Answers.{Answer}
 use Rattle.core_code.specs.declared.stop.Stop.{Stop}
 use Rattle.core_code.specs.declared.stop.Stop.TheVariants.{Memory}
 use Rattle.core_code.proofs.Frames.{all_show_on, stands_on}
 use Rattle.core_code.proofs.Reading.{show_append}
-use Rattle.core_steps.specs.Choosing.{all_chosen, places_of, truths, Below, Long, RowsChosen, rows_chosen, no_rows_chosen, Rows_chosen, PartedTold, parted_told, not_parted, Parted_told}
+use Rattle.core_steps.specs.Choosing.{all_chosen, places_of, truths, Below, RowsChosen, rows_chosen, no_rows_chosen, Rows_chosen, PartedTold, parted_told, not_parted, Parted_told}
 use Rattle.core_steps.proofs.Places.{places_within}
 
 module _ (us : List Atom) (mark : ℕ) (S S' : State) where

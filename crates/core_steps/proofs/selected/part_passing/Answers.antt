@@ -1,4 +1,4 @@
-use Rattle.std.proofs.Common.{◌-◌, ◌∙◌, ap, subst, take, drop, length, Ok, refl}
+use Rattle.std.proofs.Common.{◌-◌, ap, subst, take, drop, length, Ok, refl}
 use Rattle.core_code.specs.Registers.{state}
 use Rattle.core_steps.specs.Choosing.{Rows_chosen}
 use Rattle.core_steps.proofs.Parting.{part_done}
