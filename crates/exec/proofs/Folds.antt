@@ -99,7 +99,7 @@ none_left [] (suc j) l = refl
 none_left (x ∷ rows) zero l = absurd (omega (arith, l))
 none_left (x ∷ rows) (suc j) l = none_left rows j (omega (arith, l))
 
-folding_on : (G : Sorts) (env : Env) (xs ys : List Var) (r : Bundle) (b : Body) (n : ℕ) (rows : List Row) (S0 S : State) (c : ℕ) → Kept n S0 S c → Folding G env xs ys r b n rows S0 → Folding G env xs ys r b n rows S
+pub folding_on : (G : Sorts) (env : Env) (xs ys : List Var) (r : Bundle) (b : Body) (n : ℕ) (rows : List Row) (S0 S : State) (c : ℕ) → Kept n S0 S c → Folding G env xs ys r b n rows S0 → Folding G env xs ys r b n rows S
 folding_on G env xs ys r b n rows S0 S c k on = record {
   mid = on.mid;
   middle = on.middle;

@@ -76,7 +76,7 @@ pub mapping_on : (G : Sorts) (env : Env) (xs : List Var) (source : Source) (b : 
 mapping_on G env xs source b ss n rows S0 S c k on =
     record { mid = on.mid; last = on.last; stands = stands_kept G env n S0 S c on.stands k; rises = on.rises; gives = on.gives; at = on.at; read = on.read; typed = on.typed; numbered = on.numbered }
 
-rows_on : (rs rs' : List Array) (ss : List Sort) (rows : List Row) (ws : List ℕ) → ((i : ℕ) (a : Array) → slice_get rs i ≡ Some a → slice_get rs' i ≡ Some a) → RowsShow rs ss rows ws → RowsShow rs' ss rows ws
+pub rows_on : (rs rs' : List Array) (ss : List Sort) (rows : List Row) (ws : List ℕ) → ((i : ℕ) (a : Array) → slice_get rs i ≡ Some a → slice_get rs' i ≡ Some a) → RowsShow rs ss rows ws → RowsShow rs' ss rows ws
 rows_on rs rs' ss _ _ g no_rows_shown = no_rows_shown
 rows_on rs rs' ss _ _ g (row_shown_and {row = row} {rows = rows} {ws = ws} {vs = vs} x sh) = row_shown_and (all_show_on rs rs' ss row ws g x) (rows_on rs rs' ss rows vs g sh)
 

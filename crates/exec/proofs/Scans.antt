@@ -283,24 +283,24 @@ module _ (budget : ℕ) (at : Place) (us : List Atom) (r : Bundle) (xs ys : List
         record First (G : Sorts) (env : Env) (n : ℕ) (v : Under G env n (map sort_of xs)) : Type 0 where
           out : Row
           ws : List ℕ
-          count : ℕ
+          taken : ℕ
           stack : S1.stack ≡ S.stack ++ ws
           shown : AllShow S1.arena.arrays (map sort_of xs) out ws
-          kept : Kept n S S1 count
-          given : turned env v.cs v.first (Val out) count
+          kept : Kept n S S1 taken
+          given : turned env v.cs v.first (Val out) taken
 
         first_of : (G : Sorts) (env : Env) (n : ℕ) (v : Under G env n (map sort_of xs)) → First G env n v
         unfolding Row_turn_runs
         first_of G env n v = by_run (k G env n S.stack v.cs (v.first ∷ v.rows) v.first v.folding v.lies refl)
           where
             by_run : Runs (turned env v.cs v.first) (map sort_of xs) n (with_stack (state S.arena S.words s1) S.stack) S1 (Ok tt) → First G env n v
-            by_run (ran cs ws f q sh kp y) = record { out = cs; ws = ws; count = f; stack = q; shown = sh; kept = record { words = kp.words; arrays = kp.arrays; handed = kp.handed }; given = y }
+            by_run (ran cs ws f q sh kp y) = record { out = cs; ws = ws; taken = f; stack = q; shown = sh; kept = record { words = kp.words; arrays = kp.arrays; handed = kp.handed }; given = y }
 
         reduced_so : (G : Sorts) (env : Env) (n : ℕ) (v : Under G env n (map sort_of xs)) → First G env n v → Reduced_so budget (body_of b) xs ys env v.cs (v.first ∷ []) S1
-        reduced_so G env n v t = record { row = t.out; count = t.count + 0; given = goes_on t.given exact; below = S.stack; ws = t.ws; stack = t.stack; shown = t.shown }
+        reduced_so G env n v t = record { row = t.out; count = t.taken + 0; given = goes_on t.given exact; below = S.stack; ws = t.ws; stack = t.stack; shown = t.shown }
 
         folded : (G : Sorts) (env : Env) (n : ℕ) (v : Under G env n (map sort_of xs)) → First G env n v → Folding G env xs ys r (body_of b) n (v.first ∷ v.rows) S1
-        folded G env n v t = folding_on G env xs ys r (body_of b) n (v.first ∷ v.rows) (state S.arena S.words s1) S1 t.count (record { words = t.kept.words; arrays = t.kept.arrays; handed = t.kept.handed }) v.folding
+        folded G env n v t = folding_on G env xs ys r (body_of b) n (v.first ∷ v.rows) (state S.arena S.words s1) S1 t.taken (record { words = t.kept.words; arrays = t.kept.arrays; handed = t.kept.handed }) v.folding
 
         pub scan_stopped : (S2 : State) (e : Stop) → Prefixes_run budget (body_of b) xs ys r count S1 S2 (Err e) → Act_runs budget step S S2 (Err e)
         unfolding Prefixes_run Act_runs act_means Act_numbered
@@ -324,13 +324,13 @@ module _ (budget : ℕ) (at : Place) (us : List Atom) (r : Bundle) (xs ys : List
             by_glue : {a : Answer} (v : Under G env n (map sort_of xs)) (t : First G env n v) (outs : List Row) (f : ℕ) → Kept n S1 S2 f → reductions budget (body_of b) xs ys env v.cs (v.first ∷ []) v.rows (Val outs) f
                 → GluedTold (glued false at (row_sizes r.width v.ds) (t.out ∷ outs)) x.sorts S.stack S2 S3 a → Runs (scans env) x.sorts n S S3 a
             by_glue v t outs f kp y (glued_told cs ws e sh q gr) =
-                let u = reduces budget (body_of b) xs ys env v.cs (v.first ∷ []) (Val t.out) (t.count + 0) (goes_on t.given exact) in
+                let u = reduces budget (body_of b) xs ys env v.cs (v.first ∷ []) (Val t.out) (t.taken + 0) (goes_on t.given exact) in
                 ran cs ws (0 + (0 + (0 + ((u.0 + f + 0) + (0 + array_words cs))))) q sh
                 (record { words = λ i l. ap (λ t. slice_get t i) w ∙ kp.words i l ∙ t.kept.words i l; arrays = λ i c d. gr.arrays i c (kp.arrays i c (t.kept.arrays i c d)); handed = omega (arith, t.kept.handed, kp.handed, gr.handed, u.2) })
                 (goes_on (the_is (values_of env us) (Val v.cs) v.neutral) (goes_on (the_is (values_of env r.arrays) (Val v.ds) v.values) (goes_on (the_is (rows_of false at r.width v.ds) (Val (v.first ∷ v.rows)) v.read)
                 (goes_on (both u.1 y exact) (goes_on (the_is (glued false at (row_sizes r.width v.ds) (t.out ∷ outs)) (Val cs) e) exact)))))
             by_glue v t outs f kp y (glue_failed {r = s} e) =
-                let u = reduces budget (body_of b) xs ys env v.cs (v.first ∷ []) (Val t.out) (t.count + 0) (goes_on t.given exact) in
+                let u = reduces budget (body_of b) xs ys env v.cs (v.first ∷ []) (Val t.out) (t.taken + 0) (goes_on t.given exact) in
                 failed (0 + (0 + (0 + ((u.0 + f + 0) + 0))))
                 (goes_on (the_is (values_of env us) (Val v.cs) v.neutral) (goes_on (the_is (values_of env r.arrays) (Val v.ds) v.values) (goes_on (the_is (rows_of false at r.width v.ds) (Val (v.first ∷ v.rows)) v.read)
                 (goes_on (both u.1 y exact) (stops (the_is (glued false at (row_sizes r.width v.ds) (t.out ∷ outs)) (Fail s) e))))))

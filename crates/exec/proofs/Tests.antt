@@ -128,7 +128,7 @@ shown_there G env n rs t us [] cs st a v = by_none us a v
   where
     by_none : (us : List Atom) → Atoms_are G us [] → values_of env us ≡ Val cs → (ws : List ℕ) × AllShow rs [] cs ws
     by_none _ all_none v = let z : cs ≡ [] = let y : Val [] ≡ Val cs = v in cc in ([], subst (λ z. AllShow rs [] z []) (sym z) none_shown)
-shown_there G env n rs t us (s ∷ ss) cs st a v = by_more us a v
+shown_there G env n rs t us (s ∷ ss) cs st a v = by_more us a v (λ us cs a v. shown_there G env n rs t us ss cs st a v)
   where
     one_there : (u : Atom) (c : Component) → Atom_is G u (s.0, suc s.1) → value_of env u ≡ Val c → (w : ℕ) × Shows rs (s.0, suc s.1) c w
     one_there (atom.Var x) c h e =
@@ -137,11 +137,11 @@ shown_there G env n rs t us (s ∷ ss) cs st a v = by_more us a v
         (p.word, subst (λ z. Shows rs (s.0, suc s.1) z p.word) same p.shows)
     one_there (atom.Constant k) c h e = let z : 0 ≡ suc s.1 = ap (λ (z : Sort). z.1) h in absurd (omega (arith, z))
 
-    by_more : (us : List Atom) → Atoms_are G us ((s.0, suc s.1) ∷ lifted ss) → values_of env us ≡ Val cs → (ws : List ℕ) × AllShow rs (lifted (s ∷ ss)) cs ws
-    by_more _ (all_more {x = u} {xs = us} x a) v =
+    by_more : (us : List Atom) → Atoms_are G us ((s.0, suc s.1) ∷ lifted ss) → values_of env us ≡ Val cs → ((us : List Atom) (cs : Row) → Atoms_are G us (lifted ss) → values_of env us ≡ Val cs → (ws : List ℕ) × AllShow rs (lifted ss) cs ws) → (ws : List ℕ) × AllShow rs (lifted (s ∷ ss)) cs ws
+    by_more _ (all_more {x = u} {xs = us} x a) v there =
         let f = first_value env u us cs v in
         let w = one_there u f.first x f.value in
-        let k = shown_there G env n rs t us ss f.rest st a f.others in
+        let k = there us f.rest a f.others in
         (w.0 ∷ k.0, subst (λ z. AllShow rs (lifted (s ∷ ss)) z (w.0 ∷ k.0)) (sym f.whole) (shown_and w.1 k.1))
 
 none_is_no_size : (at : Place) (m : ℕ) (cs : Row) → size_of false at cs ≡ Val m → length cs ≡ 0 → ⊥
