@@ -14,3 +14,5 @@ pub mod Literals
 mod Repeating
 mod Choosing
 pub mod Places
+pub mod Parting
+mod Besides

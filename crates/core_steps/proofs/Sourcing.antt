@@ -1,5 +1,5 @@
 -- Rows or numbers to which a function is applied.
-use Rattle.std.proofs.Common.{◌≡◌, ℕ, zero, suc, ◌+◌, ◌<◌, ◌^◌, List, [], ◌∷◌, map, length, get_or, slice_get, Some, None, Option, Bor, Ok, Err, Result, false, refl, sym, ap, ◌∙◌, subst, arith}
+use Rattle.std.proofs.Common.{◌≡◌, ℕ, zero, suc, ◌+◌, ◌<◌, ◌^◌, List, [], ◌∷◌, map, length, slice_get, Some, None, Option, Bor, Ok, Err, Result, false, refl, sym, ap, ◌∙◌, subst, arith}
 use Rattle.std.specs.Prelude.{ℤ, pos, negsuc}
 use Rattle.std.proofs.lemmas.List.{length-map}
 use Rattle.fut_scalar.specs.Integers.{integer_of}
@@ -148,14 +148,9 @@ pub source_stop : (t : List ℕ) (rs : List Array) (source : Source) (at : Place
 unfolding Source_counted
 source_stop t rs source at e q G env n row st g = subst (λ z. SourceTold (source_rows false at env source) (Err z)) (sym q) no_source
 
-one_of : {A B : Type 0} (g : A → B) (xs : List A) (d : A) → length xs ≡ 1 → map g xs ≡ g (get_or xs 0 d) ∷ []
-one_of g [] d e = absurd (omega (arith, e))
-one_of g (x ∷ []) d e = refl
-one_of g (x ∷ y ∷ xs) d e = absurd (omega (arith, e))
-
-pub over_rows : (t : List ℕ) (rs : List Array) (o : Over) (xs : Bor (List Rows)) (d : Rows) (at : Place) (a : Result ℕ Stop) → o ≡ over.Rows xs → length xs.now ≡ 1 → Bundle_counted t rs (bundle_form (get_or xs.now 0 d)) at a → Source_counted t rs (source_form o) at a
+pub over_rows : (t : List ℕ) (rs : List Array) (o : Over) (xs : Bor (List Rows)) (at : Place) (a : Result ℕ Stop) → o ≡ over.Rows xs → Source_counted t rs (Of_rows (map bundle_form xs.now)) at a → Source_counted t rs (source_form o) at a
 unfolding source_form
-over_rows t rs o xs d at a e l h = subst (λ z. Source_counted t rs z at a) (sym (ap source_form e ∙ ap Of_rows (one_of bundle_form xs.now d l))) (count_rows t rs (bundle_form (get_or xs.now 0 d)) at a h)
+over_rows t rs o xs at a e h = subst (λ z. Source_counted t rs z at a) (sym (ap source_form e)) h
 
 pub over_count : (t : List ℕ) (rs : List Array) (o : Over) (u : Atom) (at : Place) (a : Result ℕ Stop) → o ≡ over.Count u → Size_asked t u at a → Source_counted t rs (source_form o) at a
 unfolding source_form
@@ -199,9 +194,9 @@ pub push_stop : (source : Source) (i : ℕ) (S S' : State) (e : Stop) → e ≡ 
 unfolding Source_pushed
 push_stop source i S S' e q G env n row rows at st g y l = subst (λ z. RowPushed (λ ds. slice_get rows i ≡ Some ds) row S S' (Err z)) (sym q) no_row
 
-pub push_over_rows : (o : Over) (xs : Bor (List Rows)) (d : Rows) (i : ℕ) (S S' : State) (a : Answer) → o ≡ over.Rows xs → length xs.now ≡ 1 → Bundle_pushed (bundle_form (get_or xs.now 0 d)) i S S' a → Source_pushed (source_form o) i S S' a
+pub push_over_rows : (o : Over) (xs : Bor (List Rows)) (i : ℕ) (S S' : State) (a : Answer) → o ≡ over.Rows xs → Source_pushed (Of_rows (map bundle_form xs.now)) i S S' a → Source_pushed (source_form o) i S S' a
 unfolding source_form
-push_over_rows o xs d i S S' a e l h = subst (λ z. Source_pushed z i S S' a) (sym (ap source_form e ∙ ap Of_rows (one_of bundle_form xs.now d l))) (push_rows (bundle_form (get_or xs.now 0 d)) i S S' a h)
+push_over_rows o xs i S S' a e h = subst (λ z. Source_pushed z i S S' a) (sym (ap source_form e)) h
 
 pub push_over_count : (o : Over) (u : Atom) (i : ℕ) (S S' : State) (a : Answer) → o ≡ over.Count u → i < 2 ^ 64 → S'.arena ≡ S.arena → Pushed i S.stack S'.stack a → Source_pushed (source_form o) i S S' a
 unfolding source_form

@@ -1,5 +1,5 @@
 -- Rows of arrays by their numbers, and what the calls that make arrays of some rows answer.
-use Rattle.std.specs.Prelude.{◌≡◌, ℕ, suc, ◌*◌, ◌==◌, ◌<◌, List, [], ◌∷◌, ◌++◌, Bool, true, false, not, cond, map, flat_map, take, drop, length, slice_get, Some, Result, Ok, Err}
+use Rattle.std.specs.Prelude.{◌≡◌, ℕ, suc, ◌+◌, ◌*◌, ◌==◌, ◌<◌, List, [], ◌∷◌, ◌++◌, Bool, true, false, not, cond, map, flat_map, take, drop, length, slice_get, Some, Result, Ok, Err}
 use Rattle.fut_scalar.specs.declared.place.Place.{Place}
 use Rattle.fut_value.specs.Leaves.{extent}
 use Rattle.fut_meaning.specs.Outcomes.{Val}
@@ -78,6 +78,16 @@ unfoldable pub Passing_told : List Atom → ℕ → State → State → Answer �
 Passing_told us mark S S' r =
     (G : Sorts) (env : Env) (m n : ℕ) (ss : List Sort) (cs : Row) (below ws : List ℕ) → Stands G env m S.arena.arrays S.words → Atoms_are G us (lifted ss) → values_of env us ≡ Val cs → Long n cs → S.stack ≡ below ++ ws → length below ≡ mark → length ws ≡ n
     → PassingTold (places_of true 0 (truths ws)) cs ss below S S' r
+
+-- the same of the rows whose tests passed, and behind them of those whose tests did not
+pub data PartedTold (is js : List ℕ) (cs : Row) (ss : List Sort) (below : List ℕ) (S S' : State) : Answer → Type 0 where
+  parted_told : (ws : List ℕ) → AllShow S'.arena.arrays (lifted ss ++ lifted ss) (all_chosen is cs ++ all_chosen js cs) ws → S'.stack ≡ below ++ ws → Made S.arena S'.arena (array_words (all_chosen is cs) + array_words (all_chosen js cs)) → PartedTold is js cs ss below S S' (Ok tt)
+  not_parted : PartedTold is js cs ss below S S' (Err Memory)
+
+unfoldable pub Parted_told : List Atom → ℕ → State → State → Answer → Type 0
+Parted_told us mark S S' r =
+    (G : Sorts) (env : Env) (m n : ℕ) (ss : List Sort) (cs : Row) (below ws : List ℕ) → Stands G env m S.arena.arrays S.words → Atoms_are G us (lifted ss) → values_of env us ≡ Val cs → Long n cs → S.stack ≡ below ++ ws → length below ≡ mark → length ws ≡ n
+    → PartedTold (places_of true 0 (truths ws)) (places_of false 0 (truths ws)) cs ss below S S' r
 
 -- the bundle of no rows, in the place of one that has none
 unfoldable pub No_rows_told : Bundle → Place → State → State → Answer → Type 0

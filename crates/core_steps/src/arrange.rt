@@ -55,7 +55,7 @@ pub fn too_large(place: Place) -> Stop
 }
 
 /// The report that sizes do not fit one another.
-fn misfit(place: Place) -> Stop
+pub fn misfit(place: Place) -> Stop
     ensures { result ≡ Failed (report Size place) }
 {
     Stop::Failed(Report {

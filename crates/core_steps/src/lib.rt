@@ -15,6 +15,7 @@ mod making;
 mod rows;
 mod selected;
 mod sources;
+mod together;
 mod views;
 
 pub use arrange::{glue, push_last};
@@ -22,6 +23,6 @@ pub use bundles::{bundle_count, push_bundle};
 pub use empties::glue_none;
 pub use making::run_making;
 pub use rows::{push_row, rows_count};
-pub use selected::{keep_none, keep_passing};
+pub use selected::{keep_none, keep_passing, part_passing};
 pub use sources::{push_source, size_at, source_count};
 pub use views::run_view;

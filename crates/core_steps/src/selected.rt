@@ -3,7 +3,7 @@ ghost use Rattle.std.specs.Prelude.{◌≡◌, ◌*◌, cond, not, map, flat_map
 ghost use Rattle.core_ir.specs.Plain.{bundle_form};
 ghost use Rattle.core_code.specs.Answers.{OnlyMemory};
 ghost use Rattle.core_code.specs.Registers.{state};
-ghost use Rattle.core_steps.specs.Choosing.{Column_chosen, No_rows_told, Passing_told, Rows_chosen, picked, places_of, truths};
+ghost use Rattle.core_steps.specs.Choosing.{Column_chosen, No_rows_told, Parted_told, Passing_told, Rows_chosen, picked, places_of, truths};
 
 use crate::arrange::glue_bare;
 use crate::columns::put_words;
@@ -115,6 +115,30 @@ pub fn keep_passing(
     let rows = passing_rows(arrays.alloc(), true, &stack[mark..])?;
     stack.truncate(mark);
     choose_rows(atoms, rows.as_slice(), table, stack, arrays)
+}
+
+/// Makes arrays of the rows whose tests passed, and of those whose tests did not, in the place of the tests' words.
+#[tactic(auto, using(crate::proofs::Parting::partings))]
+pub fn part_passing(
+    atoms: &[Atom],
+    mark: usize,
+    table: &[u64],
+    stack: &mut Vec<u64>,
+    arrays: &mut Arrays,
+) -> Result<(), Stop>
+    ensures told { Parted_told atoms.now mark (state arrays.old table.now stack.old.items) (state arrays.new table.now stack.new.items) result }
+    ensures memory { OnlyMemory result }
+{
+    if mark > stack.len() {
+        return Err(Stop::Memory);
+    }
+    let alloc = arrays.alloc();
+    let tests = &stack[mark..];
+    let passed = passing_rows(alloc, true, tests)?;
+    let others = passing_rows(alloc, false, tests)?;
+    stack.truncate(mark);
+    choose_rows(atoms, passed.as_slice(), table, stack, arrays)?;
+    choose_rows(atoms, others.as_slice(), table, stack, arrays)
 }
 
 /// Makes arrays of no rows in the place of those of a bundle that has none.

@@ -5,7 +5,7 @@ ghost use Rattle.core_code.specs.Answers.{OnlyMemory};
 ghost use Rattle.core_code.specs.Registers.{state};
 ghost use Rattle.core_steps.specs.Sources.{Size_asked, Source_counted, Source_pushed};
 
-use crate::bundles::{bundle_count, push_bundle};
+use crate::together::{bundles_count, push_bundles};
 use core_arrays::Arrays;
 use core_code::{Stop, asked, elem_of, fits, push, word_at};
 use core_ir::{Atom, Over};
@@ -38,12 +38,7 @@ pub fn source_count(over: Over, place: Place, table: &[u64], arrays: &Arrays) ->
     ensures { Source_counted table.now arrays.now.arrays (source_form over.entry) place result }
 {
     match over {
-        Over::Rows(rows) => {
-            if rows.len() != 1 {
-                return Err(Stop::Memory);
-            }
-            bundle_count(rows[0], place, table, arrays)
-        }
+        Over::Rows(rows) => bundles_count(rows, place, table, arrays),
         Over::Count(atom) => size_at(atom, place, table),
     }
 }
@@ -61,12 +56,7 @@ pub fn push_source(
     ensures memory { OnlyMemory result }
 {
     match over {
-        Over::Rows(rows) => {
-            if rows.len() != 1 {
-                return Err(Stop::Memory);
-            }
-            push_bundle(rows[0], i, table, stack, arrays)
-        }
+        Over::Rows(rows) => push_bundles(rows, i, table, stack, arrays),
         Over::Count(_) => push(i, stack),
     }
 }

@@ -1,12 +1,11 @@
-use Rattle.std.proofs.Common.{refl, arith}
+use Rattle.std.proofs.Common.{refl}
 use Rattle.core_code.specs.Registers.{state}
 use Rattle.core_steps.proofs.Sourcing.{push_over_rows, push_over_count}
 use Rattle.core_steps.proofs.sources.push_source.Goals as goal
 
-pub returns-else-rows-ne1-clause-told : goal.returns-else-rows-ne1-clause-told
-returns-else-rows-ne1-clause-told c =
-    push_over_rows c.args.over c.in-Rows.rows _ c.args.i (state c.args.arrays.now c.args.table.now c.args.stack.now.items) (state c.push_bundle.new.arrays c.args.table.now c.push_bundle.new.stack.items) c.push_bundle.result
-    c.in-Rows.is (omega (arith, c.if-rows-ne1.false)) c.push_bundle.ensures.told
+pub returns-in-Rows-clause-told : goal.returns-in-Rows-clause-told
+returns-in-Rows-clause-told c =
+    push_over_rows c.args.over c.in-Rows.rows c.args.i (state c.args.arrays.now c.args.table.now c.args.stack.now.items) (state c.push_bundles.new.arrays c.args.table.now c.push_bundles.new.stack.items) c.push_bundles.result c.in-Rows.is c.push_bundles.ensures.told
 
 pub returns-in-Count-clause-told : goal.returns-in-Count-clause-told
 returns-in-Count-clause-told c =
