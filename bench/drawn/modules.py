@@ -147,8 +147,7 @@ def expression(w, e, names):
         return ('tuple', tuple(t for t, _ in parts)), lambda l: tuple(f(l) for _, f in parts)
     if k == 'apply':
         t, f = expression(w, p[0], names)
-        for x in p[1:]:
-            s, a = expression(w, x, names)
+        for s, a in [expression(w, x, names) for x in p[1:]]:
             if not (isinstance(t, tuple) and t[0] == 'to' and t[1] == s): return ill(w)
             t, f = t[2], (lambda f, a: lambda l: f(l)(a(l)))(f, a)
         return t, f
